@@ -1,0 +1,10 @@
+pub mod Sent
+mod Voting
+mod Worlds
+mod Progressing
+mod Reading
+mod Roles
+mod Asked
+mod Printing
+mod Sending
+mod Turning

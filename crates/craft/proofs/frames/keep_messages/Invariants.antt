@@ -1,0 +1,7 @@
+use Rattle.std.proofs.Common.{◌≡◌, ◌++◌, take}
+use Rattle.craft.specs.Worlds.{messages_among}
+use Rattle.craft.proofs.frames.keep_messages.Given as goal
+
+-- the messages among what was passed so far are kept
+abbrev pub invariant-loop-output : goal.invariant-loop-output
+invariant-loop-output l = l.sent.items ≡ l.fn.sent.items ++ messages_among (take l.output-index l.outputs)

@@ -1,0 +1,32 @@
+use Rattle.std.proofs.Common.{◌∙◌, refl, ap, sym, subst}
+use Rattle.world_model.specs.Schedule as schedule
+use Rattle.craft.specs.Input.{TakesLine}
+use Rattle.craft.proofs.Reading.{broken_line, bad_line, event_line, event_found, event_none}
+use Rattle.world_model.proofs.Inputs.{good_line}
+use Rattle.craft.proofs.replay.next_event.Goals as goal
+
+pub returns-in-Broken-clause-failed : goal.returns-in-Broken-clause-failed
+returns-in-Broken-clause-failed g c = (
+  refl,
+  broken_line c.args.shape.now c.args.number (g.S.Source.left c.args.src.now) (g.S.Source.left c.read_line.new.src) c.read_line.new.line.items
+      (subst (TakesLine (g.S.Source.left c.args.src.now) (g.S.Source.left c.read_line.new.src) c.read_line.new.line.items) c.in-Broken.is c.in_ok-read_line.ensures.taken),
+)
+
+pub returns-in-Some-clause-read : goal.returns-in-Some-clause-read
+returns-in-Some-clause-read g c =
+    let found = event_found (schedule.event_of c.args.shape.now c.deref.result.now) c.in-Some.event (sym c.in-Some.is ∙ c.in_ok-event-in-LineFeed.ensures) in (
+      found.0,
+      found.2,
+      event_line c.args.shape.now c.args.number (g.S.Source.left c.args.src.now) (g.S.Source.left c.read_line.new.src) c.read_line.new.line.items found.0
+          (subst (TakesLine (g.S.Source.left c.args.src.now) (g.S.Source.left c.read_line.new.src) c.read_line.new.line.items) c.in-LineFeed.is c.in_ok-read_line.ensures.taken)
+          c.requires (ap (schedule.event_of c.args.shape.now) (sym c.deref.ensures.value) ∙ found.1),
+    )
+
+pub returns-in-None-clause-failed : goal.returns-in-None-clause-failed
+returns-in-None-clause-failed g c =
+    let taken = subst (TakesLine (g.S.Source.left c.args.src.now) (g.S.Source.left c.read_line.new.src) c.read_line.new.line.items) c.in-LineFeed.is c.in_ok-read_line.ensures.taken in (
+      refl,
+      bad_line c.args.shape.now c.args.number (g.S.Source.left c.args.src.now) (g.S.Source.left c.read_line.new.src) c.read_line.new.line.items taken
+          (good_line c.args.shape.now c.args.number c.read_line.new.line.items taken.2 c.requires
+          ∙ ap (schedule.event_of c.args.shape.now) (sym c.deref.ensures.value) ∙ event_none (schedule.event_of c.args.shape.now c.deref.result.now) (sym c.in-None.is ∙ c.in_ok-event-in-LineFeed.ensures)),
+    )

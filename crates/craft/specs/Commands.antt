@@ -1,0 +1,7 @@
+-- The commands of the code.
+use Rattle.world_model.specs.Words as commands
+use Rattle.craft.specs.declared.words.Command.{Command}
+use Rattle.craft.specs.declared.words.Command.TheVariants.{Replay}
+
+abbrev pub kept_command : commands.Command → Command
+kept_command (commands.Replay group) = Replay group

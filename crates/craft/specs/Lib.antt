@@ -1,0 +1,9 @@
+pub mod Commands
+pub mod Input
+pub mod Kept
+pub mod Program
+pub mod Replaying
+pub mod Says
+pub mod Statuses
+pub mod Turns
+pub mod Worlds

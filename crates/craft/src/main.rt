@@ -1,0 +1,108 @@
+//! CRaft, a replicated key-value store over erasure-coded log entries: the program.
+#![tactic(auto)]
+
+mod adapters;
+mod frames;
+mod input;
+mod lines;
+mod message;
+mod node;
+mod number;
+mod replay;
+mod replay_end;
+mod schedule;
+mod status;
+#[cfg(test)]
+mod tests;
+mod top;
+mod voters;
+mod words;
+mod world;
+
+use adapters::{ReaderSource, WriterSink, no_disks};
+use craft_base::OutOfMemory;
+use craft_edge::{MemClock, MemLink};
+use status::{Status, code_of, text_of};
+use std::env;
+use std::io::{BufReader, Write, writer};
+use std::process::ExitCode;
+use top::{craft, paths_of};
+
+const HELP: &str = "\
+usage: craft replay F k
+
+Runs the schedule on standard input in a group of 2F+1 members that survives F
+failures (1 to 7) and rebuilds a value from k fragments (1 to F+1), and prints
+what happens. A schedule has one event a line:
+
+  tick i word   time passes at member i; the word chooses how long it waits
+  take m        frame m is delivered
+
+Exit status: 0 done, 2 bad words, 3 bad schedule, 6 the input failed,
+7 the output failed, 12 out of memory.
+";
+
+const VERSION: &str = "craft 0.1.0\n";
+
+fn main(rt: HostRuntime) -> ExitCode {
+    let status = match command_words(&rt) {
+        Ok(words) => answer(&rt, &words),
+        Err(status) => status,
+    };
+    if let Ok(text) = text_of(rt.alloc(), &status) {
+        let _ = rt.stderr().write_all(text.as_bytes());
+    }
+    ExitCode::from(code_of(&status))
+}
+
+/// The words of the command line without the program's name.
+fn command_words(rt: &HostRuntime) -> Result<Vec<String>, Status> {
+    let mut words = Vec::new(rt.alloc());
+    let all = match env::args(rt) {
+        Ok(all) => all,
+        Err(_) => return Err(Status::BadWords),
+    };
+    for word in all.skip(1) {
+        if words.push(word).is_err() {
+            return Err(Status::NoMemory);
+        }
+    }
+    Ok(words)
+}
+
+/// Answers `--help` and `--version`, and leaves all other words to the top call.
+fn answer(rt: &HostRuntime, words: &[String]) -> Status {
+    match words {
+        [word] if word.as_str() == "--help" => print(rt, HELP),
+        [word] if word.as_str() == "--version" => print(rt, VERSION),
+        _ => run(rt, words).unwrap_or(Status::NoMemory),
+    }
+}
+
+/// Prints a text of the program's own.
+fn print(rt: &HostRuntime, text: &str) -> Status {
+    match writer(rt).write_all(text.as_bytes()) {
+        Ok(()) => Status::Done,
+        Err(_) => Status::SinkFault,
+    }
+}
+
+/// Hands the top call standard input and output. No command has a journal, a socket or a clock yet.
+fn run(rt: &HostRuntime, words: &[String]) -> Result<Status, OutOfMemory> {
+    let alloc = rt.alloc();
+    let mut src = ReaderSource {
+        reader: BufReader::new(alloc, rt.reader()).map_err(|_| OutOfMemory)?,
+        faults: 0,
+    };
+    let mut out = WriterSink {
+        writer: writer(rt),
+        faults: 0,
+    };
+    let mut link = MemLink::new(Vec::new(alloc), Vec::new(alloc));
+    let mut clock = MemClock::new(vec![in alloc; 0]?);
+    let disks = no_disks(alloc, &paths_of(alloc, words)?)?;
+    let (status, _) = craft(
+        alloc, words, &mut src, &mut out, disks, &mut link, &mut clock,
+    );
+    Ok(status)
+}

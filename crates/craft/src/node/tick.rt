@@ -1,0 +1,74 @@
+//! Tick: a node that has heard nothing for long enough stands for election.
+ghost use Rattle.std.specs.Prelude.{◌<◌, ◌^◌, OnOk};
+
+use crate::message::{Body, Message};
+use crate::node::{Node, Role};
+use crate::voters::Voters;
+use craft_base::OutOfMemory;
+
+/// Quiet ticks are counted up to here.
+const MOST_QUIET: u64 = 100;
+
+impl Node {
+    ghost use Rattle.craft.specs.Kept.{Becomes, Acts};
+    ghost use Rattle.world_model.specs.Rules.Tick.{waits, as_candidate, asks_for_votes, waits_or_stands, ticks};
+
+    /// Time passes. `word` chooses how many quiet ticks are enough.
+    pub fn tick(&mut self, word: u64, sends: &mut Vec<Message>) -> Result<(), OutOfMemory>
+        ensures { OnOk result (Acts (ticks word) self.old self.new sends.old.items sends.new.items) }
+    {
+        match self.role {
+            Role::Follower | Role::Candidate => {
+                self.wait();
+                self.stand_if_due(word, sends)?;
+            }
+            // A beat tells a leader who answered since the one before; nothing is asked of it yet.
+            Role::Leader => {}
+        }
+        Ok(())
+    }
+
+    /// Counts one more quiet tick.
+    fn wait(&mut self)
+        ensures { Becomes waits self.old self.new }
+    {
+        self.quiet = self.quiet.saturating_add(1).min(MOST_QUIET);
+    }
+
+    /// Stands for election where it has waited long enough and a higher term is left.
+    fn stand_if_due(&mut self, word: u64, sends: &mut Vec<Message>) -> Result<(), OutOfMemory>
+        ensures { OnOk result (Acts (waits_or_stands word) self.old self.new sends.old.items sends.new.items) }
+    {
+        if !election::starts(self.quiet, word, self.term) {
+            return Ok(());
+        }
+        self.become_candidate();
+        self.ask_for_votes(sends)?;
+        Ok(())
+    }
+
+    /// Becomes a candidate in the next term, with its own vote.
+    fn become_candidate(&mut self)
+        requires { self.old.term < 2 ^ 62 }
+        ensures { Becomes as_candidate self.old self.new }
+    {
+        self.term += 1;
+        self.vote = Some(self.me);
+        self.role = Role::Candidate;
+        self.quiet = 0;
+        self.hint = None;
+        self.voters = Voters::none();
+    }
+
+    /// Asks all others for their vote, and shows where its log ends.
+    fn ask_for_votes(&mut self, sends: &mut Vec<Message>) -> Result<(), OutOfMemory>
+        ensures { OnOk result (Acts asks_for_votes self.old self.new sends.old.items sends.new.items) }
+    {
+        let body = Body::VoteRequest {
+            last_term: self.log_end.term,
+            last: self.log_end.index,
+        };
+        self.send_to_others(body, sends)?;
+        Ok(())
+    }
+}

@@ -1,0 +1,59 @@
+//! VoteReply: a candidate that has the votes of more than half of the members leads.
+ghost use Rattle.std.specs.Prelude.{◌≡◌};
+
+use crate::node::{Node, Role};
+use craft_base::MemberId;
+
+impl Node {
+    ghost use Rattle.craft.specs.Kept.{kept_node, Becomes};
+    ghost use Rattle.world_model.specs.Nodes as nodes;
+    ghost use Rattle.world_model.specs.Rules.VoteReply.{hears_vote, has_won, as_leader, leads_if_won, counts_reply};
+
+    /// Hears a reply of this term. It sends nothing.
+    pub fn count_reply(&mut self, sender: MemberId, granted: bool)
+        ensures { Becomes (λ n. (counts_reply n sender granted).node) self.old self.new }
+    {
+        match self.role {
+            Role::Follower => {}
+            Role::Candidate => {
+                self.hear_vote(sender, granted);
+                self.lead_if_won();
+            }
+            Role::Leader => self.hear_vote(sender, granted),
+        }
+    }
+
+    /// Keeps who granted its vote.
+    fn hear_vote(&mut self, sender: MemberId, granted: bool)
+        ensures { Becomes (hears_vote sender granted) self.old self.new }
+    {
+        if granted {
+            self.voters.add(sender);
+        }
+    }
+
+    /// Leads the term where it has won.
+    fn lead_if_won(&mut self)
+        ensures { Becomes (λ n. (leads_if_won n).node) self.old self.new }
+    {
+        if self.has_won() {
+            self.become_leader();
+        }
+    }
+
+    /// Whether more than half of the members voted for it, itself among them.
+    fn has_won(&self) -> bool
+        ensures { (n : nodes.Node) → self.now ≡ kept_node n → result ≡ has_won n }
+    {
+        let votes = self.voters.count(self.shape.members()) + 1;
+        votes >= usize::from(self.shape.majority())
+    }
+
+    /// Leads its term.
+    fn become_leader(&mut self)
+        ensures { Becomes as_leader self.old self.new }
+    {
+        self.role = Role::Leader;
+        self.hint = Some(self.me);
+    }
+}

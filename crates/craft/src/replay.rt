@@ -1,0 +1,128 @@
+//! The replay of a schedule: a line is read, its event is carried out, and its text is written, one after the other.
+ghost use Rattle.std.specs.Prelude.{◌≡◌, ◌≤◌, ◌⊎◌, is_some, IfOk, IfErr, OnOk};
+ghost use Rattle.std.specs.Io.KnownBytes.{Appends};
+ghost use Rattle.craft_base.specs.Parameters.{Parameters};
+ghost use Rattle.craft_edge.specs.Causes.{Rose};
+ghost use Rattle.world_model.specs.Lines.{event_text};
+ghost use Rattle.world_model.specs.World as model;
+ghost use Rattle.craft.specs.declared.replay_end.ReplayEnd.TheVariants.{SinkFault, NoMemory};
+ghost use Rattle.craft.specs.Replaying.{ReadsEvent, ReadsNone, Ends};
+ghost use Rattle.craft.specs.Worlds.{StandsFor, kept_event};
+
+use crate::input::{LineEnd, read_line};
+use crate::lines::push_event;
+use crate::replay_end::ReplayEnd;
+use crate::schedule::event_of;
+use crate::world::{Event, World};
+use craft_base::Shape;
+use craft_edge::{Sink, Source, write_all};
+use std::alloc::Global;
+
+/// The most lines of a schedule.
+const MOST_LINES: u64 = 1_000_000;
+
+/// Runs the schedule of a source in a group that has never run before, and writes the text of each event as it is
+/// carried out.
+pub fn replay<S: Source, O: Sink>(
+    alloc: Global,
+    shape: &Shape,
+    src: &mut S,
+    out: &mut O,
+) -> ReplayEnd
+    ensures ends { Ends shape.now (S.left src.old) (S.left src.new) (O.taken out.old) (O.taken out.new)
+        (record { source = S.faults src.old; sink = O.faults out.old }) (record { source = S.faults src.new; sink = O.faults out.new }) result }
+{
+    match run(alloc, shape, src, out) {
+        Ok(end) => end,
+        Err(end) => end,
+    }
+}
+
+/// The same, with what ends it early as an error.
+fn run<S: Source, O: Sink>(
+    alloc: Global,
+    shape: &Shape,
+    src: &mut S,
+    out: &mut O,
+) -> Result<ReplayEnd, ReplayEnd>
+    ensures done { IfOk result (Ends shape.now (S.left src.old) (S.left src.new) (O.taken out.old) (O.taken out.new)
+        (record { source = S.faults src.old; sink = O.faults out.old }) (record { source = S.faults src.new; sink = O.faults out.new })) }
+    ensures early { IfErr result (Ends shape.now (S.left src.old) (S.left src.new) (O.taken out.old) (O.taken out.new)
+        (record { source = S.faults src.old; sink = O.faults out.old }) (record { source = S.faults src.new; sink = O.faults out.new })) }
+{
+    let mut world = World::new(alloc, shape)?;
+    let mut line = Vec::new(alloc);
+    for number in 1..MOST_LINES + 1 {
+        match next_event(alloc, shape, number, src, &mut line)? {
+            None => return Ok(ReplayEnd::End),
+            Some(event) => print_event(alloc, number, &event, &mut world, out)?,
+        }
+    }
+    match past_the_last(src, &mut line) {
+        Ok(()) => Ok(ReplayEnd::End),
+        Err(end) => Err(end),
+    }
+}
+
+/// Reads the event of the next line, or none where the input has ended.
+fn next_event<S: Source>(
+    alloc: Global,
+    shape: &Shape,
+    number: u64,
+    src: &mut S,
+    line: &mut Vec<u8>,
+) -> Result<Option<Event>, ReplayEnd>
+    requires { number ≤ 1_000_000 }
+    ensures read { IfOk result (ReadsEvent shape.now number (S.left src.old) (S.left src.new)) }
+    ensures failed { IfErr result (ReadsNone shape.now number (S.left src.old) (S.faults src.old) (S.faults src.new)) }
+    ensures told { is_some (S.left src.new) ≡ is_some (S.left src.old) }
+    ensures later { S.faults src.old ≤ S.faults src.new }
+{
+    match read_line(src, line)? {
+        LineEnd::End => Ok(None),
+        LineEnd::Broken => Err(ReplayEnd::Bad { line: number }),
+        LineEnd::LineFeed => match event_of(alloc, shape, line)? {
+            Some(event) => Ok(Some(event)),
+            None => Err(ReplayEnd::Bad { line: number }),
+        },
+    }
+}
+
+/// Any line past the last that a schedule may have is bad.
+fn past_the_last<S: Source>(src: &mut S, line: &mut Vec<u8>) -> Result<(), ReplayEnd>
+    ensures read { OnOk result ((group : Parameters) → ReadsEvent group 1_000_001 (S.left src.old) (S.left src.new) None) }
+    ensures failed { (group : Parameters) → IfErr result (ReadsNone group 1_000_001 (S.left src.old) (S.faults src.old) (S.faults src.new)) }
+    ensures told { is_some (S.left src.new) ≡ is_some (S.left src.old) }
+    ensures later { S.faults src.old ≤ S.faults src.new }
+{
+    match read_line(src, line)? {
+        LineEnd::End => Ok(()),
+        LineEnd::Broken | LineEnd::LineFeed => Err(ReplayEnd::Bad {
+            line: MOST_LINES + 1,
+        }),
+    }
+}
+
+/// Carries an event out, and writes its text.
+fn print_event<O: Sink>(
+    alloc: Global,
+    number: u64,
+    event: &Event,
+    world: &mut World,
+    out: &mut O,
+) -> Result<(), ReplayEnd>
+    ensures world { OnOk result ((e : model.Event) (w : model.World) → event.now ≡ kept_event e → StandsFor world.old w → StandsFor world.new (model.step w e).world) }
+    ensures text { OnOk result ((e : model.Event) (w : model.World) → event.now ≡ kept_event e → StandsFor world.old w → Appends (O.taken out.old) (O.taken out.new) (event_text number w (model.step w e))) }
+    ensures failed { IfErr result (λ e. (e ≡ NoMemory) ⊎ ((e ≡ SinkFault) × Rose (O.faults out.old) (O.faults out.new))) }
+    ensures told { is_some (O.taken out.new) ≡ is_some (O.taken out.old) }
+    ensures later { O.faults out.old ≤ O.faults out.new }
+{
+    let frame = world.frames() as u64 + 1;
+    let happened = world.step(alloc, event)?;
+    let mut text = String::new(alloc);
+    push_event(&mut text, number, frame, &happened)?;
+    match write_all(out, text.as_bytes()) {
+        Ok(()) => Ok(()),
+        Err(_) => Err(ReplayEnd::SinkFault),
+    }
+}

@@ -1,0 +1,42 @@
+//! How a replay ends.
+ghost use Rattle.std.specs.Prelude.{◌≡◌};
+ghost use Rattle.craft.specs.declared.replay_end.ReplayEnd.TheVariants.{NoMemory};
+
+use craft_base::OutOfMemory;
+use std::alloc::{AllocError, AllocFailed};
+
+/// How a replay ends.
+#[derive(Clone, Copy, Debug, PartialEq, Eq)]
+pub enum ReplayEnd {
+    /// The input was read to its end.
+    End,
+    /// The first bad line.
+    Bad { line: u64 },
+    SourceFault,
+    SinkFault,
+    NoMemory,
+}
+
+impl From<OutOfMemory> for ReplayEnd {
+    ghost from_gives = { λ _ end. end ≡ NoMemory };
+
+    fn from(_: OutOfMemory) -> Self {
+        ReplayEnd::NoMemory
+    }
+}
+
+impl From<AllocError> for ReplayEnd {
+    ghost from_gives = { λ _ end. end ≡ NoMemory };
+
+    fn from(_: AllocError) -> Self {
+        ReplayEnd::NoMemory
+    }
+}
+
+impl<T: Drop> From<AllocFailed<T>> for ReplayEnd {
+    ghost from_gives = { λ _ end. end ≡ NoMemory };
+
+    fn from(_: AllocFailed<T>) -> Self {
+        ReplayEnd::NoMemory
+    }
+}

@@ -1,0 +1,73 @@
+//! How the program ends, and what it says of it.
+ghost use Rattle.std.specs.Prelude.{◌≡◌, IfOk};
+ghost use Rattle.craft.specs.Statuses.{code_of_status, text_of_status, bad_schedule_line, status_of_end};
+
+use crate::replay_end::ReplayEnd;
+use craft_base::{Blob, OutOfMemory};
+use std::alloc::Global;
+
+/// How the program ends.
+#[derive(Clone, Copy, Debug, PartialEq, Eq)]
+pub enum Status {
+    /// All was done.
+    Done,
+    /// The words are no command; nothing was read, written or sent.
+    BadWords,
+    /// The first bad line of the input. The text of the events before it has been written.
+    BadSchedule { line: u64 },
+    /// The input failed.
+    SourceFault,
+    /// The output failed.
+    SinkFault,
+    /// No memory was left.
+    NoMemory,
+}
+
+impl From<ReplayEnd> for Status {
+    ghost from_gives = { λ end status. status ≡ status_of_end end };
+
+    fn from(end: ReplayEnd) -> Self {
+        match end {
+            ReplayEnd::End => Status::Done,
+            ReplayEnd::Bad { line } => Status::BadSchedule { line },
+            ReplayEnd::SourceFault => Status::SourceFault,
+            ReplayEnd::SinkFault => Status::SinkFault,
+            ReplayEnd::NoMemory => Status::NoMemory,
+        }
+    }
+}
+
+/// The exit code: 0 for `Done`, and a code of its own for each other status.
+pub fn code_of(status: &Status) -> u8
+    ensures { result ≡ code_of_status status.now }
+{
+    match status {
+        Status::Done => 0,
+        Status::BadWords => 2,
+        Status::BadSchedule { .. } => 3,
+        Status::SourceFault => 6,
+        Status::SinkFault => 7,
+        Status::NoMemory => 12,
+    }
+}
+
+/// The text on standard error: nothing for `Done`, and one line for each other status. The only error is want of memory.
+pub fn text_of(alloc: Global, status: &Status) -> Result<Blob, OutOfMemory>
+    ensures { IfOk result (λ text. text ≡ text_of_status status.now) }
+{
+    match status {
+        Status::Done => Blob::copy_of(alloc, b""),
+        Status::BadWords => Blob::copy_of(alloc, b"craft: bad words\n"),
+        Status::BadSchedule { line } => bad_schedule_text(alloc, *line),
+        Status::SourceFault => Blob::copy_of(alloc, b"craft: source failed\n"),
+        Status::SinkFault => Blob::copy_of(alloc, b"craft: sink failed\n"),
+        Status::NoMemory => Blob::copy_of(alloc, b"craft: out of memory\n"),
+    }
+}
+
+fn bad_schedule_text(alloc: Global, line: u64) -> Result<Blob, OutOfMemory>
+    ensures { IfOk result (λ text. text ≡ bad_schedule_line line) }
+{
+    let text = format!(in alloc; "craft: bad schedule at line {line}\n")?;
+    Blob::copy_of(alloc, text.as_bytes())
+}

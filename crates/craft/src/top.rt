@@ -1,0 +1,78 @@
+//! All that the program does, over whatever it is given to do it with.
+ghost use Rattle.std.specs.Prelude.{◌≡◌, ◌↔◌, ℕ, length, map, None, Ok, IfOk, string_bytes, vec_len};
+ghost use Rattle.craft_edge.specs.Causes.{Rose};
+ghost use Rattle.world_model.specs.Words as commands;
+ghost use Rattle.craft.specs.Commands.{kept_command};
+ghost use Rattle.craft.specs.Program.{paths, place, RunsAll, RunsUpTo, Answers};
+
+use crate::replay::replay;
+use crate::status::Status;
+use crate::words::{Command, plan};
+use craft_base::OutOfMemory;
+use craft_edge::{Clock, Disk, Link, Sink, Source};
+use std::alloc::Global;
+
+/// Does what the words ask for. `replay F k` runs the schedule that the source gives in a group that survives F failures
+/// and needs k fragments of a value, and writes the text of the run to the sink. It hands the disks back.
+pub fn craft<S: Source, O: Sink, D: Disk, L: Link, C: Clock>(
+    alloc: Global,
+    words: &[String],
+    src: &mut S,
+    out: &mut O,
+    disks: Vec<D>,
+    link: &mut L,
+    clock: &mut C,
+) -> (Status, Vec<D>)
+    requires { vec_len disks ≡ length (paths (map string_bytes words.now)) }
+
+    // Over a source and a sink that tell their bytes: the input was read to its end, and exactly its run was printed.
+    ensures done { result.0 ≡ Status.Done → RunsAll (commands.plan (map string_bytes words.now))
+        (S.left src.old) (S.left src.new) (O.taken out.old) (O.taken out.new) }
+
+    // The words are no command, and nothing was read or written.
+    ensures bad_words { (result.0 ≡ Status.BadWords) ↔ (commands.plan (map string_bytes words.now) ≡ None) }
+    ensures nothing_done { result.0 ≡ Status.BadWords → (src.new ≡ src.old) × (out.new ≡ out.old) }
+
+    // The first bad line, and exactly the run of the lines before it was printed.
+    ensures bad_schedule { (line : ℕ) → result.0 ≡ Status.BadSchedule line → RunsUpTo (commands.plan (map string_bytes words.now)) line
+        (S.left src.old) (O.taken out.old) (O.taken out.new) }
+
+    // A fault is told only where its device failed in this call.
+    ensures source_fault { result.0 ≡ Status.SourceFault → Rose (S.faults src.old) (S.faults src.new) }
+    ensures sink_fault { result.0 ≡ Status.SinkFault → Rose (O.faults out.old) (O.faults out.new) }
+
+    // Nothing was sent, the clock wasn't read, and the disks are as they were.
+    ensures outside { (link.new ≡ link.old) × (clock.new ≡ clock.old) × (result.1 ≡ disks) }
+{
+    match plan(words) {
+        None => (Status::BadWords, disks),
+        Some(command) => (run(alloc, &command, src, out), disks),
+    }
+}
+
+/// Carries a command out.
+fn run<S: Source, O: Sink>(alloc: Global, command: &Command, src: &mut S, out: &mut O) -> Status
+    ensures { (asked : commands.Command) → command.now ≡ kept_command asked → Answers asked (S.left src.old) (S.left src.new) (O.taken out.old) (O.taken out.new)
+        (record { source = S.faults src.old; sink = O.faults out.old }) (record { source = S.faults src.new; sink = O.faults out.new }) result }
+{
+    match command {
+        Command::Replay(shape) => Status::from(replay(alloc, shape, src, out)),
+    }
+}
+
+/// The paths of the journals that the command of these words has: no command has one yet.
+pub fn paths_of(alloc: Global, words: &[String]) -> Result<Vec<String>, OutOfMemory>
+    ensures found { IfOk result (λ found. map string_bytes found.items ≡ paths (map string_bytes words.now)) }
+    ensures count { IfOk result (λ found. vec_len found ≡ length (paths (map string_bytes words.now))) }
+{
+    let _ = words;
+    Ok(Vec::new(alloc))
+}
+
+/// The place at which the command of these words binds its socket: no command has one yet.
+pub fn place_of(alloc: Global, words: &[String]) -> Result<Option<u64>, OutOfMemory>
+    ensures { result ≡ Ok (place (map string_bytes words.now)) }
+{
+    let _ = words;
+    Ok(None)
+}

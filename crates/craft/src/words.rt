@@ -1,0 +1,52 @@
+//! The words of the command line, by position.
+ghost use Rattle.std.specs.Prelude.{◌≡◌, map, string_bytes};
+ghost use Rattle.std.specs.Option.{option_map};
+ghost use Rattle.craft.specs.Commands.{kept_command};
+ghost use Rattle.world_model.specs.Words as commands;
+ghost use Rattle.world_model.specs.Numbers.{number_of};
+ghost use Rattle.craft_base.specs.Shapes.{shape_from};
+
+use crate::number::number;
+use craft_base::Shape;
+
+/// What the program is asked to do.
+#[derive(Clone, Copy, Debug, PartialEq, Eq)]
+pub enum Command {
+    /// Run the schedule that comes in, and print it.
+    Replay(Shape),
+}
+
+/// What the words ask for; nothing exactly where they are no command.
+pub fn plan(words: &[String]) -> Option<Command>
+    ensures { result ≡ option_map kept_command (commands.plan (map string_bytes words.now)) }
+{
+    match words {
+        [name, faults, need] => {
+            if name.as_str() == "replay" {
+                replay_of(faults.as_str(), need.as_str())
+            } else {
+                None
+            }
+        }
+        _ => None,
+    }
+}
+
+/// `replay F k`.
+fn replay_of(faults: &str, need: &str) -> Option<Command>
+    ensures { result ≡ option_map kept_command (commands.replay_of (commands.group_of (number_of faults.now) (number_of need.now))) }
+{
+    let faults = number(faults.as_bytes())?;
+    let need = number(need.as_bytes())?;
+    let shape = shape_of(faults, need)?;
+    Some(Command::Replay(shape))
+}
+
+/// The group of two numbers, where they make one.
+fn shape_of(faults: u64, need: u64) -> Option<Shape>
+    ensures { result ≡ commands.group_if_ok (shape_from faults need) }
+{
+    let faults = u8::try_from(faults).ok()?;
+    let need = u8::try_from(need).ok()?;
+    Shape::new(faults, need).ok()
+}

@@ -1,0 +1,13 @@
+pub mod Bytes
+pub mod Calls
+pub mod Causes
+pub mod Disk
+pub mod DiskCalls
+pub mod DiskModel
+pub mod Link
+pub mod MemClock
+pub mod MemLink
+pub mod MemSink
+pub mod MemSource
+pub mod Packets
+pub mod Readings

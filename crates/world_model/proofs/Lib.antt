@@ -1,0 +1,4 @@
+mod Examples
+pub mod Inputs
+pub mod Numerals
+pub mod Runs

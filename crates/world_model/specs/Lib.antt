@@ -1,0 +1,12 @@
+pub mod Logs
+pub mod Messages
+pub mod Nodes
+pub mod Knowledge
+pub mod Rules
+pub mod Turn
+pub mod World
+pub mod Lines
+pub mod Numbers
+pub mod Safety
+pub mod Schedule
+pub mod Words

@@ -1,0 +1,6 @@
+-- The rules of a turn, one file for each. A rule makes of a node another node, and the messages that it sends, in order.
+pub mod Acts
+pub mod Terms
+pub mod Tick
+pub mod Vote
+pub mod VoteReply
