@@ -3,6 +3,7 @@ use Rattle.std.proofs.Common.{◌≡◌, ◌≤◌, ℕ, ◌+◌, List, [], ◌�
 use Rattle.std.specs.Prelude.{IfSome}
 use Rattle.std.specs.Io.KnownBytes.{Appends}
 use Rattle.std.proofs.KnownBytes.{Appends-nil, Appends-trans}
+use Rattle.bridge.proofs.Leaders.{one_leader_a_term}
 use Rattle.craft_base.specs.Parameters.{Parameters}
 use Rattle.world_model.specs.Lines.{event_text, lines_of_run}
 use Rattle.world_model.specs.Schedule.{with_event, reading, reading_from, lines_of}
@@ -74,7 +75,11 @@ goes_on group number world next left mid now taken written all p event read stan
 prints : (group : Parameters) (bad : Option ℕ) (events : List model.Event) (bytes : List ℕ) (taken all : Option (List ℕ))
     → reading group bytes ≡ after_events events (record { events = []; bad = bad }) → Appends taken all (lines_of_run group events) → PrintsReading group bad bytes taken all
 prints group bad events bytes taken all read text =
-    (ap (λ r. r.bad) read, subst (λ es. Appends taken all (lines_of_run group es)) (sym (ap (λ r. r.events) read ∙ append-nil events)) text)
+    record {
+      first_bad = ap (λ r. r.bad) read;
+      text = subst (λ es. Appends taken all (lines_of_run group es)) (sym (ap (λ r. r.events) read ∙ append-nil events)) text;
+      one_leader = one_leader_a_term group (reading group bytes).events;
+    }
 
 -- the input has ended
 pub ends_well : (group : Parameters) (number : ℕ) (world : World) (left mid now taken all : Option (List ℕ)) → Progress group number world left mid taken all

@@ -7,10 +7,10 @@ use Rattle.craft_base.specs.Parameters.{Parameters}
 use Rattle.world_model.specs.Schedule.{event_of, event_at, with_event, reading_with, reading_from, lines_of, most_lines, longest_line}
 use Rattle.world_model.specs.World as model
 use Rattle.world_model.proofs.Inputs.{lines_of-line, lines_of-unended, lines_of-long, reading-bad, unended_is_bad, long_is_bad, late_is_bad, good_line}
-use Rattle.craft.specs.declared.input.LineEnd.{LineEnd}
-use Rattle.craft.specs.declared.input.LineEnd.TheVariants.{LineFeed, Broken}
+use Rattle.line_input.specs.declared.line.LineEnd.{LineEnd}
+use Rattle.line_input.specs.declared.line.LineEnd.TheVariants.{LineFeed, Broken}
 use Rattle.craft.specs.declared.world.Event.{Event}
-use Rattle.craft.specs.Input.{TakesLine, HasNoLineFeed}
+use Rattle.line_input.specs.Lines.{TakesLine, HasNoLineFeed}
 use Rattle.craft.specs.Replaying.{WhereTold}
 use Rattle.craft.specs.Worlds.{kept_event}
 

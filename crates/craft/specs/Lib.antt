@@ -1,5 +1,5 @@
 pub mod Commands
-pub mod Input
+pub mod Faults
 pub mod Kept
 pub mod Program
 pub mod Replaying

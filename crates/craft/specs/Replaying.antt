@@ -4,6 +4,7 @@ use Rattle.std.specs.Io.KnownBytes.{Appends}
 use Rattle.craft_base.specs.Parameters.{Parameters}
 use Rattle.craft_edge.specs.Causes.{Rose}
 use Rattle.world_model.specs.Lines.{lines_of_run}
+use Rattle.world_model.specs.Safety.{OneLeaderATerm}
 use Rattle.world_model.specs.Schedule.{Reading, with_event, reading, reading_from, lines_of}
 use Rattle.world_model.specs.World as model
 use Rattle.craft.specs.declared.replay_end.ReplayEnd.{ReplayEnd}
@@ -35,10 +36,12 @@ ReadsNone group number old faults_before faults_now SourceFault = Rose faults_be
 ReadsNone group number old faults_before faults_now SinkFault = ⊥
 ReadsNone group number old faults_before faults_now NoMemory = Unit {0}
 
--- the text of the events that the bytes say was written, and the first bad line is this one, if there is one
-abbrev pub PrintsReading : Parameters → Option ℕ → List ℕ → Option (List ℕ) → Option (List ℕ) → Type 0
-PrintsReading group bad bytes taken now_taken =
-    ((reading group bytes).bad ≡ bad) × Appends taken now_taken (lines_of_run group (reading group bytes).events)
+-- Of what the bytes say: the first bad line is this one, if there is one; the text of the events before it was written; and
+-- no term of their run has two members that ever led it.
+pub record PrintsReading (group : Parameters) (bad : Option ℕ) (bytes : List ℕ) (taken now_taken : Option (List ℕ)) : Type 0 where
+  pub first_bad : (reading group bytes).bad ≡ bad
+  pub text : Appends taken now_taken (lines_of_run group (reading group bytes).events)
+  pub one_leader : OneLeaderATerm group (reading group bytes).events
 
 -- every line was good, and nothing is left
 abbrev pub PrintsAll : Parameters → Option (List ℕ) → Option (List ℕ) → Option (List ℕ) → Option (List ℕ) → Type 0

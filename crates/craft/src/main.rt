@@ -3,11 +3,9 @@
 
 mod adapters;
 mod frames;
-mod input;
 mod lines;
 mod message;
 mod node;
-mod number;
 mod replay;
 mod replay_end;
 mod schedule;

@@ -9,13 +9,13 @@ ghost use Rattle.craft.specs.declared.replay_end.ReplayEnd.TheVariants.{SinkFaul
 ghost use Rattle.craft.specs.Replaying.{ReadsEvent, ReadsNone, Ends};
 ghost use Rattle.craft.specs.Worlds.{StandsFor, kept_event};
 
-use crate::input::{LineEnd, read_line};
 use crate::lines::push_event;
 use crate::replay_end::ReplayEnd;
 use crate::schedule::event_of;
 use crate::world::{Event, World};
 use craft_base::Shape;
 use craft_edge::{Sink, Source, write_all};
+use line_input::{LineEnd, read_line};
 use std::alloc::Global;
 
 /// The most lines of a schedule.

@@ -1,8 +1,10 @@
 //! How a replay ends.
 ghost use Rattle.std.specs.Prelude.{◌≡◌};
 ghost use Rattle.craft.specs.declared.replay_end.ReplayEnd.TheVariants.{NoMemory};
+ghost use Rattle.craft.specs.Faults.{end_of_fault};
 
 use craft_base::OutOfMemory;
+use line_input::InputFault;
 use std::alloc::{AllocError, AllocFailed};
 
 /// How a replay ends.
@@ -15,6 +17,17 @@ pub enum ReplayEnd {
     SourceFault,
     SinkFault,
     NoMemory,
+}
+
+impl From<InputFault> for ReplayEnd {
+    ghost from_gives = { λ fault end. end ≡ end_of_fault fault };
+
+    fn from(fault: InputFault) -> Self {
+        match fault {
+            InputFault::SourceFault => ReplayEnd::SourceFault,
+            InputFault::NoMemory => ReplayEnd::NoMemory,
+        }
+    }
 }
 
 impl From<OutOfMemory> for ReplayEnd {

@@ -5,9 +5,9 @@ ghost use Rattle.std.specs.Option.{option_map};
 ghost use Rattle.world_model.specs.Schedule as schedule;
 ghost use Rattle.craft.specs.Worlds.{kept_event};
 
-use crate::number::number;
 use crate::world::Event;
 use craft_base::{MemberId, OutOfMemory, Shape};
+use line_input::number;
 use std::alloc::{AllocError, Global};
 
 /// The event of a line without its line feed, or nothing where the line is outside the grammar.

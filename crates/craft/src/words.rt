@@ -6,8 +6,8 @@ ghost use Rattle.world_model.specs.Words as commands;
 ghost use Rattle.world_model.specs.Numbers.{number_of};
 ghost use Rattle.craft_base.specs.Shapes.{shape_from};
 
-use crate::number::number;
 use craft_base::Shape;
+use line_input::number;
 
 /// What the program is asked to do.
 #[derive(Clone, Copy, Debug, PartialEq, Eq)]

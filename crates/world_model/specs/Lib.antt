@@ -10,3 +10,4 @@ pub mod Numbers
 pub mod Safety
 pub mod Schedule
 pub mod Words
+pub mod Spelling

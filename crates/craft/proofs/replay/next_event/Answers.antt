@@ -1,6 +1,6 @@
 use Rattle.std.proofs.Common.{◌∙◌, refl, ap, sym, subst}
 use Rattle.world_model.specs.Schedule as schedule
-use Rattle.craft.specs.Input.{TakesLine}
+use Rattle.line_input.specs.Lines.{TakesLine}
 use Rattle.craft.proofs.Reading.{broken_line, bad_line, event_line, event_found, event_none}
 use Rattle.world_model.proofs.Inputs.{good_line}
 use Rattle.craft.proofs.replay.next_event.Goals as goal

@@ -1,0 +1,45 @@
+-- One leader a term, in every run.
+use Rattle.std.proofs.Common.{◌≡◌, ℕ, ◌+◌, List, true, Option, None, Some, slice_get, refl, ap, subst, ◌∙◌, arith}
+use Rattle.craft_base.specs.Parameters.{Parameters}
+use Rattle.world_model.specs.Nodes.{Node}
+use Rattle.world_model.specs.Safety.{LeadsTerm, EverLed}
+use Rattle.world_model.specs.World as world
+use Rattle.protocol.specs.History as protocol
+use Rattle.protocol.specs.Moves.{Reached, None_yet}
+use Rattle.protocol.proofs.Elections.{votes_reached, one_winner_reached}
+use Rattle.bridge.specs.Views.{role_seen}
+use Rattle.bridge.specs.Agreement.{NodeAgrees, WorldAgrees}
+use Rattle.bridge.specs.Bridges.{RunBridged}
+use Rattle.bridge.specs.Laws.{OneLeaderInEveryRun}
+use Rattle.bridge.proofs.Runs.{history_reached, moves_between, runs_are_bridged}
+use Rattle.bridge.proofs.Steps.{reached_grows}
+
+-- who leads a term has won it
+leader_won :
+    {shape : Parameters} {h : protocol.History} {w : world.World} → Reached shape.faults h → WorldAgrees shape h w →
+    (term member : ℕ) (here : Option Node) → slice_get w.nodes member ≡ here → LeadsTerm here term → h.won term member ≡ true
+leader_won reached a term member None here leads = absurd leads
+leader_won {shape = shape} {h = h} reached a term member (Some n) here leads =
+    let agrees : NodeAgrees shape h member n = a.nodes member n here in
+    let role : h.role member ≡ protocol.Leading = agrees.role ∙ ap role_seen leads.0 in
+    subst (λ t. h.won t member ≡ true) (agrees.term ∙ leads.1) ((votes_reached shape.faults h reached).leading member role)
+
+module _ {group : Parameters} {events : List world.Event} (r : RunBridged group protocol.start (world.start group) events) where
+  -- who ever led a term has won it in each later history
+  ever_won : (term member : ℕ) (led : EverLed group events term member) (more : ℕ) → (r.history (led.0 + more)).won term member ≡ true
+  ever_won term member led more =
+      let then_reached : Reached group.faults (r.history led.0) = history_reached r None_yet led.0 in
+      let grown = reached_grows then_reached (moves_between r led.0 more) in
+      grown.won term member (leader_won then_reached (r.agrees led.0) term member _ refl led.1)
+
+  one_ever_led :
+      (term one other : ℕ) → EverLed group events term one → EverLed group events term other → one ≡ other
+  one_ever_led term one other first second =
+      let count = first.0 + second.0 in
+      let e : second.0 + first.0 ≡ count = omega arith in
+      one_winner_reached group.faults (r.history count) (history_reached r None_yet count) term one other (ever_won term one first second.0)
+      (subst (λ k. (r.history k).won term other ≡ true) e (ever_won term other second first.0))
+
+-- what the crates above cite
+pub one_leader_a_term : OneLeaderInEveryRun
+one_leader_a_term group events = one_ever_led (runs_are_bridged group events)

@@ -1,0 +1,12 @@
+pub mod Counting
+pub mod Views
+pub mod Facts
+pub mod Steps
+pub mod Rules
+pub mod Turn
+pub mod Places
+pub mod Start
+pub mod World
+pub mod Runs
+pub mod Leaders
+pub mod Examples

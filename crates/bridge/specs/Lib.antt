@@ -1,0 +1,4 @@
+pub mod Views
+pub mod Agreement
+pub mod Bridges
+pub mod Laws

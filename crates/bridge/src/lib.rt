@@ -1,0 +1,23 @@
+//! Why the rules of a turn are safe: every run of a group is a run of the protocol, and so what the protocol promises holds
+//! of it. Nothing here runs: each function states a law as its contract, for every group and every list of events.
+//! `specs/Agreement.antt` says when a world agrees with a history of the protocol; `docs/PROOFS.md`, "The bridge", tells
+//! the argument.
+#![tactic(auto)]
+
+ghost use Rattle.bridge.specs.Laws.{OneLeaderInEveryRun, RunsAreBridged, SomeRunElects};
+
+/// Every run of a group is a run of the protocol: after each front of the events there is a history, made of the one before
+/// by moves, with which each member and each message that was ever sent agrees.
+pub fn every_run_is_one_of_the_protocol()
+    ensures { RunsAreBridged }
+{}
+
+/// No term has two members that were ever its leader, whatever the events (Raft's election safety).
+pub fn one_leader_a_term()
+    ensures { OneLeaderInEveryRun }
+{}
+
+/// There is a run in which a member leads.
+pub fn some_run_elects()
+    ensures { SomeRunElects }
+{}

@@ -1,0 +1,5 @@
+pub mod Bits
+pub mod Additive
+pub mod Products
+pub mod Laws
+pub mod Inverses

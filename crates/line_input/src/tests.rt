@@ -1,0 +1,53 @@
+use super::*;
+use craft_edge::MemSource;
+use std::test::Fail;
+
+#[test]
+fn lines_come_one_after_the_other(rt: HostRuntime) -> Result<(), Fail> {
+    let alloc = rt.alloc();
+    let mut src = MemSource::new(b"ab\n\nc".to_vec(alloc)?, 2, Vec::new(alloc));
+    let mut line = Vec::new(alloc);
+    // how the line ends, and its bytes
+    for (end, text) in [
+        (LineEnd::LineFeed, b"ab".as_slice()),
+        (LineEnd::LineFeed, b""),
+        (LineEnd::Broken, b"c"),
+        (LineEnd::End, b""),
+    ] {
+        assert_eq!(rt; read_line(&mut src, &mut line), Ok(end));
+        assert_eq!(rt; line.as_slice(), text);
+    }
+    Ok(())
+}
+
+#[test]
+fn a_source_that_fails_is_told(rt: HostRuntime) -> Result<(), Fail> {
+    let alloc = rt.alloc();
+    let mut src = MemSource::new(b"ab\n".to_vec(alloc)?, 1, vec![in alloc; 2]?);
+    let mut line = Vec::new(alloc);
+    assert_eq!(rt;
+        read_line(&mut src, &mut line),
+        Err(InputFault::SourceFault)
+    );
+    Ok(())
+}
+
+#[test]
+fn a_number_is_decimal(rt: HostRuntime) {
+    let table: [(&[u8], Option<u64>); 11] = [
+        (b"0", Some(0)),
+        (b"7", Some(7)),
+        (b"10", Some(10)),
+        (b"18446744073709551615", Some(u64::MAX)),
+        (b"18446744073709551616", None),
+        (b"99999999999999999999999", None),
+        (b"", None),
+        (b"00", None),
+        (b"07", None),
+        (b"+7", None),
+        (b"7 ", None),
+    ];
+    for (word, want) in table {
+        assert_eq!(rt; number(word), want, "at {word:?}");
+    }
+}

@@ -1,0 +1,11 @@
+pub mod Polynomials
+pub mod Roots
+pub mod Unique
+pub mod Steps
+pub mod Pieces
+pub mod Interpolation
+pub mod Members
+pub mod Parts
+pub mod Solutions
+pub mod Keeping
+pub mod Determined
