@@ -22,22 +22,29 @@ use craft_base::OutOfMemory;
 use craft_edge::{MemClock, MemLink};
 use status::{Status, code_of, text_of};
 use std::env;
-use std::io::{BufReader, Write, writer};
+use std::io::{BufReader, ErrorKind, Write, writer};
 use std::process::ExitCode;
 use top::{craft, paths_of};
 
 const HELP: &str = "\
-usage: craft replay F k
+usage: craft replay F k < SCHEDULE
+       craft split F k < VALUE
+       craft join F k < FRAGMENTS
 
-Runs the schedule on standard input in a group of 2F+1 members that survives F
-failures (1 to 7) and rebuilds a value from k fragments (1 to F+1), and prints
-what happens. A schedule has one event a line:
+Each command is for a group of 2F+1 members that survives F failures (1 to 7)
+and rebuilds a value from any k of its fragments (1 to F+1).
+
+replay runs a schedule in the group, and prints what happens. A schedule has one
+event a line:
 
   tick i word   time passes at member i; the word chooses how long it waits
   take m        frame m is delivered
 
-Exit status: 0 done, 2 bad words, 3 bad schedule, 6 the input failed,
-7 the output failed, 12 out of memory.
+split prints the fragments of a value of at most 32,768 bytes, one a line. join
+reads such lines, any k of them or more, and writes the value.
+
+Exit status: 0 done, 2 bad words, 3 bad input, 6 the input failed, 7 the output
+failed, 11 too few fragments, 12 out of memory.
 ";
 
 const VERSION: &str = "craft 0.1.0\n";
@@ -58,6 +65,7 @@ fn command_words(rt: &HostRuntime) -> Result<Vec<String>, Status> {
     let mut words = Vec::new(rt.alloc());
     let all = match env::args(rt) {
         Ok(all) => all,
+        Err(error) if error.kind() == ErrorKind::OutOfMemory => return Err(Status::NoMemory),
         Err(_) => return Err(Status::BadWords),
     };
     for word in all.skip(1) {

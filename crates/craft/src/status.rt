@@ -1,9 +1,10 @@
 //! How the program ends, and what it says of it.
 ghost use Rattle.std.specs.Prelude.{◌≡◌, IfOk};
-ghost use Rattle.craft.specs.Statuses.{code_of_status, text_of_status, bad_schedule_line, status_of_end};
+ghost use Rattle.craft.specs.Statuses.{code_of_status, text_of_status, bad_schedule_line, too_few_line, status_of_end, status_of_split, status_of_join};
 
 use crate::replay_end::ReplayEnd;
 use craft_base::{Blob, OutOfMemory};
+use fragment_text::{JoinEnd, SplitEnd};
 use std::alloc::Global;
 
 /// How the program ends.
@@ -15,6 +16,8 @@ pub enum Status {
     BadWords,
     /// The first bad line of the input. The text of the events before it has been written.
     BadSchedule { line: u64 },
+    /// `join`: every line is good, and there are fewer part lines than are needed; their number.
+    TooFew { index: u64 },
     /// The input failed.
     SourceFault,
     /// The output failed.
@@ -37,6 +40,35 @@ impl From<ReplayEnd> for Status {
     }
 }
 
+impl From<SplitEnd> for Status {
+    ghost from_gives = { λ end status. status ≡ status_of_split end };
+
+    fn from(end: SplitEnd) -> Self {
+        match end {
+            SplitEnd::End => Status::Done,
+            SplitEnd::TooLong => Status::BadSchedule { line: 1 },
+            SplitEnd::SourceFault => Status::SourceFault,
+            SplitEnd::SinkFault => Status::SinkFault,
+            SplitEnd::NoMemory => Status::NoMemory,
+        }
+    }
+}
+
+impl From<JoinEnd> for Status {
+    ghost from_gives = { λ end status. status ≡ status_of_join end };
+
+    fn from(end: JoinEnd) -> Self {
+        match end {
+            JoinEnd::End => Status::Done,
+            JoinEnd::Bad { line } => Status::BadSchedule { line },
+            JoinEnd::TooFew { index } => Status::TooFew { index },
+            JoinEnd::SourceFault => Status::SourceFault,
+            JoinEnd::SinkFault => Status::SinkFault,
+            JoinEnd::NoMemory => Status::NoMemory,
+        }
+    }
+}
+
 /// The exit code: 0 for `Done`, and a code of its own for each other status.
 pub fn code_of(status: &Status) -> u8
     ensures { result ≡ code_of_status status.now }
@@ -47,6 +79,7 @@ pub fn code_of(status: &Status) -> u8
         Status::BadSchedule { .. } => 3,
         Status::SourceFault => 6,
         Status::SinkFault => 7,
+        Status::TooFew { .. } => 11,
         Status::NoMemory => 12,
     }
 }
@@ -59,6 +92,7 @@ pub fn text_of(alloc: Global, status: &Status) -> Result<Blob, OutOfMemory>
         Status::Done => Blob::copy_of(alloc, b""),
         Status::BadWords => Blob::copy_of(alloc, b"craft: bad words\n"),
         Status::BadSchedule { line } => bad_schedule_text(alloc, *line),
+        Status::TooFew { index } => too_few_text(alloc, *index),
         Status::SourceFault => Blob::copy_of(alloc, b"craft: source failed\n"),
         Status::SinkFault => Blob::copy_of(alloc, b"craft: sink failed\n"),
         Status::NoMemory => Blob::copy_of(alloc, b"craft: out of memory\n"),
@@ -69,5 +103,12 @@ fn bad_schedule_text(alloc: Global, line: u64) -> Result<Blob, OutOfMemory>
     ensures { IfOk result (λ text. text ≡ bad_schedule_line line) }
 {
     let text = format!(in alloc; "craft: bad schedule at line {line}\n")?;
+    Blob::copy_of(alloc, text.as_bytes())
+}
+
+fn too_few_text(alloc: Global, index: u64) -> Result<Blob, OutOfMemory>
+    ensures { IfOk result (λ text. text ≡ too_few_line index) }
+{
+    let text = format!(in alloc; "craft: too few at {index}\n")?;
     Blob::copy_of(alloc, text.as_bytes())
 }

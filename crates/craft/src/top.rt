@@ -1,19 +1,21 @@
 //! All that the program does, over whatever it is given to do it with.
-ghost use Rattle.std.specs.Prelude.{◌≡◌, ◌↔◌, ℕ, length, map, None, Ok, IfOk, string_bytes, vec_len};
+ghost use Rattle.std.specs.Prelude.{◌≡◌, ◌↔◌, ℕ, length, map, None, Some, Ok, IfOk, string_bytes, vec_len};
 ghost use Rattle.craft_edge.specs.Causes.{Rose};
 ghost use Rattle.world_model.specs.Words as commands;
 ghost use Rattle.craft.specs.Commands.{kept_command};
-ghost use Rattle.craft.specs.Program.{paths, place, RunsAll, RunsUpTo, Answers};
+ghost use Rattle.craft.specs.Program.{paths, place, Answers};
 
 use crate::replay::replay;
 use crate::status::Status;
 use crate::words::{Command, plan};
 use craft_base::OutOfMemory;
 use craft_edge::{Clock, Disk, Link, Sink, Source};
+use fragment_text::{join, split};
 use std::alloc::Global;
 
-/// Does what the words ask for. `replay F k` runs the schedule that the source gives in a group that survives F failures
-/// and needs k fragments of a value, and writes the text of the run to the sink. It hands the disks back.
+/// Does what the words ask for, and hands the disks back. Each command is for a group that survives F failures and needs k
+/// fragments of a value. `replay F k` runs the schedule that the source gives, and writes the text of the run to the sink.
+/// `split F k` writes a value's fragments as text. `join F k` reads such a text and writes the value.
 pub fn craft<S: Source, O: Sink, D: Disk, L: Link, C: Clock>(
     alloc: Global,
     words: &[String],
@@ -25,17 +27,14 @@ pub fn craft<S: Source, O: Sink, D: Disk, L: Link, C: Clock>(
 ) -> (Status, Vec<D>)
     requires { vec_len disks ≡ length (paths (map string_bytes words.now)) }
 
-    // Over a source and a sink that tell their bytes: the input was read to its end, and exactly its run was printed.
-    ensures done { result.0 ≡ Status.Done → RunsAll (commands.plan (map string_bytes words.now))
-        (S.left src.old) (S.left src.new) (O.taken out.old) (O.taken out.new) }
+    // What each status means, by the command: over a source and a sink that tell their bytes, what was read and written.
+    ensures answers { (command : commands.Command) → commands.plan (map string_bytes words.now) ≡ Some command → Answers command
+        (record { left = S.left src.old; taken = O.taken out.old; source_faults = S.faults src.old; sink_faults = O.faults out.old })
+        (record { left = S.left src.new; taken = O.taken out.new; source_faults = S.faults src.new; sink_faults = O.faults out.new }) result.0 }
 
     // The words are no command, and nothing was read or written.
     ensures bad_words { (result.0 ≡ Status.BadWords) ↔ (commands.plan (map string_bytes words.now) ≡ None) }
     ensures nothing_done { result.0 ≡ Status.BadWords → (src.new ≡ src.old) × (out.new ≡ out.old) }
-
-    // The first bad line, and exactly the run of the lines before it was printed.
-    ensures bad_schedule { (line : ℕ) → result.0 ≡ Status.BadSchedule line → RunsUpTo (commands.plan (map string_bytes words.now)) line
-        (S.left src.old) (O.taken out.old) (O.taken out.new) }
 
     // A fault is told only where its device failed in this call.
     ensures source_fault { result.0 ≡ Status.SourceFault → Rose (S.faults src.old) (S.faults src.new) }
@@ -52,11 +51,14 @@ pub fn craft<S: Source, O: Sink, D: Disk, L: Link, C: Clock>(
 
 /// Carries a command out.
 fn run<S: Source, O: Sink>(alloc: Global, command: &Command, src: &mut S, out: &mut O) -> Status
-    ensures { (asked : commands.Command) → command.now ≡ kept_command asked → Answers asked (S.left src.old) (S.left src.new) (O.taken out.old) (O.taken out.new)
-        (record { source = S.faults src.old; sink = O.faults out.old }) (record { source = S.faults src.new; sink = O.faults out.new }) result }
+    ensures { (asked : commands.Command) → command.now ≡ kept_command asked → Answers asked
+        (record { left = S.left src.old; taken = O.taken out.old; source_faults = S.faults src.old; sink_faults = O.faults out.old })
+        (record { left = S.left src.new; taken = O.taken out.new; source_faults = S.faults src.new; sink_faults = O.faults out.new }) result }
 {
     match command {
         Command::Replay(shape) => Status::from(replay(alloc, shape, src, out)),
+        Command::Split(shape) => Status::from(split(alloc, shape, src, out)),
+        Command::Join(shape) => Status::from(join(alloc, shape, src, out)),
     }
 }
 

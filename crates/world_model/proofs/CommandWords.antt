@@ -8,8 +8,8 @@ use Rattle.std.proofs.lemmas.Slice.Eq.{bytes_eq-Decides}
 use Rattle.craft_base.specs.Parameters.{Parameters}
 use Rattle.craft_base.specs.declared.shape.ShapeError.TheVariants.{BadFaults, BadNeed}
 use Rattle.world_model.specs.Numbers.{number_of}
-use Rattle.world_model.specs.Spelling.{SpellsReplay, IsGroup}
-use Rattle.world_model.specs.Words.{Command, Replay, plan, group_if_ok, group_of, replay_of}
+use Rattle.world_model.specs.Spelling.{SpellsCommand, IsCommand, IsGroup, command_name, command_group}
+use Rattle.world_model.specs.Words.{Command, Replay, Split, Join, plan, group_if_ok, group_of, command_named, command_of}
 use Rattle.world_model.proofs.Spelling.{IsNumber-decimal, IsNumber-read, read-IsNumber, decimal-IsNumber}
 
 -- the group of two numbers, by the outcomes of the tests
@@ -49,69 +49,111 @@ ungrouped (Some faults) (Some need) group h =
     let n = from_within 1 need (faults + 1) enough in
     (ap (λ g. Some g.faults) same, ap (λ g. Some g.need) same, subst (λ g. IsGroup g) same (f.0, f.1, n.0, n.1))
 
-let_through : (test : Bool) (found : Option Parameters) (group : Parameters) → (if test then replay_of found else None) ≡ Some (Replay group)
-    → (test ≡ true) × (found ≡ Some group)
-let_through true None group h = cc
-let_through true (Some found) group h = (refl, cc)
-let_through false found group h = cc
+-- the command of a name, by the outcomes of the tests
+abbrev chosen : Bool → Bool → Bool → Parameters → Option Command
+chosen replay split join group =
+    if replay then Some (Replay group) else if split then Some (Split group) else if join then Some (Join group) else None
 
-named : (test : Bool) (found : Option Parameters) (group : Parameters) → test ≡ true → found ≡ Some group
-    → (if test then replay_of found else None) ≡ Some (Replay group)
-named test found group is h = ap (λ t. if t then replay_of found else None) is ∙ ap replay_of h
+-- the test that a command's name passed
+abbrev passed : Bool → Bool → Bool → Command → Bool
+passed replay split join (Replay group) = replay
+passed replay split join (Split group) = split
+passed replay split join (Join group) = join
+
+chosen-passed : (replay split join : Bool) (group : Parameters) (command : Command) → chosen replay split join group ≡ Some command
+    → (passed replay split join command ≡ true) × (group ≡ command_group command)
+chosen-passed true split join group (Replay found) h = (refl, cc)
+chosen-passed true split join group (Split found) h = cc
+chosen-passed true split join group (Join found) h = cc
+chosen-passed false true join group (Replay found) h = cc
+chosen-passed false true join group (Split found) h = (refl, cc)
+chosen-passed false true join group (Join found) h = cc
+chosen-passed false false true group (Replay found) h = cc
+chosen-passed false false true group (Split found) h = cc
+chosen-passed false false true group (Join found) h = (refl, cc)
+chosen-passed false false false group command h = cc
+
+passed-name : (name : List ℕ) (command : Command)
+    → passed (bytes_eq name (codes "replay")) (bytes_eq name (codes "split")) (bytes_eq name (codes "join")) command ≡ true → name ≡ command_name command
+passed-name name (Replay group) h = (bytes_eq-Decides name (codes "replay")).0 h
+passed-name name (Split group) h = (bytes_eq-Decides name (codes "split")).0 h
+passed-name name (Join group) h = (bytes_eq-Decides name (codes "join")).0 h
+
+command_of-named : (name : List ℕ) (found : Option Parameters) (command : Command) → command_of name found ≡ Some command
+    → (name ≡ command_name command) × (found ≡ Some (command_group command))
+command_of-named name None command h = cc
+command_of-named name (Some group) command h =
+    let (is_name, is_group) = chosen-passed (bytes_eq name (codes "replay")) (bytes_eq name (codes "split")) (bytes_eq name (codes "join")) group command h in
+    (passed-name name command is_name, ap (λ g. Some g) is_group)
+
+own_name : (command : Command) → command_named (command_name command) (command_group command) ≡ Some command
+own_name (Replay group) = refl
+own_name (Split group) = refl
+own_name (Join group) = refl
+
+named-command_of : (name : List ℕ) (found : Option Parameters) (command : Command) → name ≡ command_name command
+    → found ≡ Some (command_group command) → command_of name found ≡ Some command
+named-command_of name found command is_name is_group =
+    ap (λ n. command_of n found) is_name ∙ ap (λ o. command_of (command_name command) o) is_group ∙ own_name command
 
 -- what is spelled is read
-pub SpellsReplay-read : (words : List (List ℕ)) (group : Parameters) → SpellsReplay words group → IsGroup group → plan words ≡ Some (Replay group)
-SpellsReplay-read [] group spelled inside = absurd spelled
-SpellsReplay-read (name ∷ []) group spelled inside = absurd spelled
-SpellsReplay-read (name ∷ faults ∷ []) group spelled inside = absurd spelled
-SpellsReplay-read (name ∷ faults ∷ need ∷ []) group (is_name, is_faults, is_need) inside =
-    named (bytes_eq name (codes "replay")) (group_of (number_of faults) (number_of need)) group ((bytes_eq-Decides name (codes "replay")).1 is_name)
+pub SpellsCommand-read : (words : List (List ℕ)) (command : Command) → SpellsCommand words command → IsCommand command → plan words ≡ Some command
+SpellsCommand-read [] command spelled inside = absurd spelled
+SpellsCommand-read (name ∷ []) command spelled inside = absurd spelled
+SpellsCommand-read (name ∷ faults ∷ []) command spelled inside = absurd spelled
+SpellsCommand-read (name ∷ faults ∷ need ∷ []) command (is_name, is_faults, is_need) inside =
+    let group : Parameters = command_group command in
+    named-command_of name (group_of (number_of faults) (number_of need)) command is_name
     (grouped (number_of faults) (number_of need) group (IsNumber-read faults group.faults is_faults) (IsNumber-read need group.need is_need) inside)
-SpellsReplay-read (name ∷ faults ∷ need ∷ more ∷ words) group spelled inside = absurd spelled
+SpellsCommand-read (name ∷ faults ∷ need ∷ more ∷ words) command spelled inside = absurd spelled
 
 -- what is read is spelled, and in range
-pub read-SpellsReplay : (words : List (List ℕ)) (group : Parameters) → plan words ≡ Some (Replay group) → SpellsReplay words group × IsGroup group
-read-SpellsReplay [] group h = cc
-read-SpellsReplay (name ∷ []) group h = cc
-read-SpellsReplay (name ∷ faults ∷ []) group h = cc
-read-SpellsReplay (name ∷ faults ∷ need ∷ []) group h =
-    let (is, found) = let_through (bytes_eq name (codes "replay")) (group_of (number_of faults) (number_of need)) group h in
+pub read-SpellsCommand : (words : List (List ℕ)) (command : Command) → plan words ≡ Some command → SpellsCommand words command × IsCommand command
+read-SpellsCommand [] command h = cc
+read-SpellsCommand (name ∷ []) command h = cc
+read-SpellsCommand (name ∷ faults ∷ []) command h = cc
+read-SpellsCommand (name ∷ faults ∷ need ∷ []) command h =
+    let group : Parameters = command_group command in
+    let (is_name, found) = command_of-named name (group_of (number_of faults) (number_of need)) command h in
     let (is_faults, is_need, inside) = ungrouped (number_of faults) (number_of need) group found in
-    (((bytes_eq-Decides name (codes "replay")).0 is, read-IsNumber faults group.faults is_faults, read-IsNumber need group.need is_need), inside)
-read-SpellsReplay (name ∷ faults ∷ need ∷ more ∷ words) group h = cc
+    ((is_name, read-IsNumber faults group.faults is_faults, read-IsNumber need group.need is_need), inside)
+read-SpellsCommand (name ∷ faults ∷ need ∷ more ∷ words) command h = cc
 
--- words are the command exactly where they spell it and its group is one
-pub words_are_replay : (words : List (List ℕ)) (group : Parameters) → (plan words ≡ Some (Replay group)) ↔ (SpellsReplay words group × IsGroup group)
-words_are_replay words group = (read-SpellsReplay words group, λ h. SpellsReplay-read words group h.0 h.1)
+-- words are a command exactly where they spell it and its group is one
+pub words_are_command : (words : List (List ℕ)) (command : Command) → (plan words ≡ Some command) ↔ (SpellsCommand words command × IsCommand command)
+words_are_command words command = (read-SpellsCommand words command, λ h. SpellsCommand-read words command h.0 h.1)
 
 -- and else none
-pub words_are_none : (words : List (List ℕ)) → (plan words ≡ None) ↔ ((group : Parameters) → SpellsReplay words group → IsGroup group → ⊥)
-words_are_none words = (λ none group spelled inside. not_both (plan words) group none (SpellsReplay-read words group spelled inside), λ never. none_else (plan words) (λ group h. let s = read-SpellsReplay words group h in never group s.0 s.1)) where
-  not_both : (found : Option Command) (group : Parameters) → found ≡ None → found ≡ Some (Replay group) → ⊥
-  not_both found group none some = cc
+pub words_are_none : (words : List (List ℕ)) → (plan words ≡ None) ↔ ((command : Command) → SpellsCommand words command → IsCommand command → ⊥)
+words_are_none words = (λ none command spelled inside. not_both (plan words) command none (SpellsCommand-read words command spelled inside), λ never. none_else (plan words) (λ command h. let s = read-SpellsCommand words command h in never command s.0 s.1)) where
+  not_both : (found : Option Command) (command : Command) → found ≡ None → found ≡ Some command → ⊥
+  not_both found command none some = cc
 
-  none_else : (found : Option Command) → ((group : Parameters) → found ≡ Some (Replay group) → ⊥) → found ≡ None
+  none_else : (found : Option Command) → ((command : Command) → found ≡ Some command → ⊥) → found ≡ None
   none_else None never = refl
-  none_else (Some (Replay group)) never = absurd (never group refl)
+  none_else (Some command) never = absurd (never command refl)
 
 -- a command has one spelling
-pub one_command : (words others : List (List ℕ)) (group : Parameters) → SpellsReplay words group → SpellsReplay others group → words ≡ others
-one_command words others group spelled as_well = by_decimals words group spelled ∙ sym (by_decimals others group as_well) where
-  by_decimals : (words : List (List ℕ)) (group : Parameters) → SpellsReplay words group → words ≡ codes "replay" ∷ decimal group.faults ∷ decimal group.need ∷ []
-  by_decimals [] group spelled = absurd spelled
-  by_decimals (name ∷ []) group spelled = absurd spelled
-  by_decimals (name ∷ faults ∷ []) group spelled = absurd spelled
-  by_decimals (name ∷ faults ∷ need ∷ []) group (is_name, is_faults, is_need) =
+pub one_command : (words others : List (List ℕ)) (command : Command) → SpellsCommand words command → SpellsCommand others command → words ≡ others
+one_command words others command spelled as_well = by_decimals words command spelled ∙ sym (by_decimals others command as_well) where
+  by_decimals : (words : List (List ℕ)) (command : Command) → SpellsCommand words command
+      → words ≡ command_name command ∷ decimal (command_group command).faults ∷ decimal (command_group command).need ∷ []
+  by_decimals [] command spelled = absurd spelled
+  by_decimals (name ∷ []) command spelled = absurd spelled
+  by_decimals (name ∷ faults ∷ []) command spelled = absurd spelled
+  by_decimals (name ∷ faults ∷ need ∷ []) command (is_name, is_faults, is_need) =
+      let group : Parameters = command_group command in
       ap (λ n. n ∷ faults ∷ need ∷ []) is_name
-      ∙ ap (λ f. codes "replay" ∷ f ∷ need ∷ []) (IsNumber-decimal faults group.faults is_faults)
-      ∙ ap (λ n. codes "replay" ∷ decimal group.faults ∷ n ∷ []) (IsNumber-decimal need group.need is_need)
-  by_decimals (name ∷ faults ∷ need ∷ more ∷ words) group spelled = absurd spelled
+      ∙ ap (λ f. command_name command ∷ f ∷ need ∷ []) (IsNumber-decimal faults group.faults is_faults)
+      ∙ ap (λ n. command_name command ∷ decimal group.faults ∷ n ∷ []) (IsNumber-decimal need group.need is_need)
+  by_decimals (name ∷ faults ∷ need ∷ more ∷ words) command spelled = absurd spelled
 
--- and each group has one
-pub some_command : (group : Parameters) → IsGroup group → (words : List (List ℕ)) × SpellsReplay words group
-some_command group inside =
+-- and each command in range has one
+pub some_command : (command : Command) → IsCommand command → (words : List (List ℕ)) × SpellsCommand words command
+some_command command inside =
+    let group : Parameters = command_group command in
     let fits = small group.faults group.need inside in (
-      codes "replay" ∷ decimal group.faults ∷ decimal group.need ∷ [],
+      command_name command ∷ decimal group.faults ∷ decimal group.need ∷ [],
       (refl, decimal-IsNumber group.faults fits.0, decimal-IsNumber group.need fits.1),
     ) where
       small : (faults need : ℕ) → IsGroup (record { faults = faults; need = need }) → (faults < 2 ^ 64) × (need < 2 ^ 64)

@@ -5,7 +5,7 @@ use Rattle.std.specs.Fmt.{digits}
 use Rattle.craft_base.specs.Parameters.{Parameters}
 use Rattle.world_model.specs.Lines.{lines_of_run}
 use Rattle.world_model.specs.Schedule.{reading}
-use Rattle.world_model.specs.Words.{Replay, plan}
+use Rattle.world_model.specs.Words.{Replay, Split, Join, plan}
 use Rattle.world_model.specs.World.{Event, TickAt, Take}
 
 abbrev three : Parameters
@@ -39,6 +39,16 @@ cut_short = refl
 
 replay_words : plan (codes "replay" ∷ codes "1" ∷ codes "2" ∷ []) ≡ Some (Replay (record { faults = 1; need = 2 }))
 replay_words = refl
+
+split_words : plan (codes "split" ∷ codes "1" ∷ codes "2" ∷ []) ≡ Some (Split (record { faults = 1; need = 2 }))
+split_words = refl
+
+join_words : plan (codes "join" ∷ codes "7" ∷ codes "8" ∷ []) ≡ Some (Join (record { faults = 7; need = 8 }))
+join_words = refl
+
+-- a command's name stands whole, in small letters
+no_such_name : plan (codes "Join" ∷ codes "7" ∷ codes "8" ∷ []) ≡ None
+no_such_name = refl
 
 -- no group survives eight failures, and three of two fragments are none
 no_such_group : plan (codes "replay" ∷ codes "8" ∷ codes "1" ∷ []) ≡ None

@@ -3,6 +3,7 @@ use Rattle.std.specs.Prelude.{◌≡◌, ◌≢◌, ℕ, ◌+◌, ◌*◌, ◌^�
 use Rattle.std.specs.List.{join_with_byte}
 use Rattle.craft_base.specs.Parameters.{Parameters, members_of}
 use Rattle.world_model.specs.Schedule.{most_lines, longest_line}
+use Rattle.world_model.specs.Words.{Command, Replay, Split, Join}
 use Rattle.world_model.specs.World.{Event, TickAt, Take}
 
 -- digits, and the number that they make: a digit counts ten times what it would count one place further right
@@ -57,11 +58,28 @@ IsAllGood group bytes events = AreLines group 1 bytes events []
 abbrev pub IsFirstBad : Parameters → List ℕ → List Event → ℕ → Type 0
 IsFirstBad group bytes events n = (rest : List ℕ) × AreLines group 1 bytes events rest × (n ≡ length events + 1) × IsBadFrom group n rest
 
--- the words `replay F k`, one a word
-abbrev pub SpellsReplay : List (List ℕ) → Parameters → Type 0
-SpellsReplay (name ∷ faults ∷ need ∷ []) group = (name ≡ codes "replay") × IsNumber faults group.faults × IsNumber need group.need
-SpellsReplay _ group = ⊥
+-- the name of a command
+abbrev pub command_name : Command → List ℕ
+command_name (Replay group) = codes "replay"
+command_name (Split group) = codes "split"
+command_name (Join group) = codes "join"
+
+-- the group that a command is for
+abbrev pub command_group : Command → Parameters
+command_group (Replay group) = group
+command_group (Split group) = group
+command_group (Join group) = group
+
+-- a command as words: its name, and the two numbers of its group, as in `replay F k`
+abbrev pub SpellsCommand : List (List ℕ) → Command → Type 0
+SpellsCommand (name ∷ faults ∷ need ∷ []) command =
+    (name ≡ command_name command) × IsNumber faults (command_group command).faults × IsNumber need (command_group command).need
+SpellsCommand _ command = ⊥
 
 -- a group survives 1 to 7 failures, and 1 to one more than these fragments rebuild a value
 abbrev pub IsGroup : Parameters → Type 0
 IsGroup group = (1 ≤ group.faults) × (group.faults ≤ 7) × (1 ≤ group.need) × (group.need ≤ group.faults + 1)
+
+-- the numbers of a command's group are in range
+abbrev pub IsCommand : Command → Type 0
+IsCommand command = IsGroup (command_group command)

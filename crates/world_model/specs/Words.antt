@@ -10,6 +10,10 @@ use Rattle.world_model.specs.Numbers.{number_of}
 pub data Command : Type 0 where
   -- run the schedule that comes in, and print it
   Replay : Parameters → Command
+  -- cut the bytes that come in into fragments, and print these as text
+  Split : Parameters → Command
+  -- read such a text, and write the bytes that its fragments rebuild
+  Join : Parameters → Command
 
 abbrev pub group_if_ok : Result Parameters ShapeError → Option Parameters
 group_if_ok (Ok group) = Some group
@@ -21,12 +25,20 @@ group_of None need = None
 group_of (Some faults) None = None
 group_of (Some faults) (Some need) = group_if_ok (shape_from faults need)
 
-abbrev pub replay_of : Option Parameters → Option Command
-replay_of None = None
-replay_of (Some group) = Some (Replay group)
+-- the command of that name, for a group
+abbrev pub command_named : List ℕ → Parameters → Option Command
+command_named name group =
+    if bytes_eq name (codes "replay") then Some (Replay group)
+    else if bytes_eq name (codes "split") then Some (Split group)
+    else if bytes_eq name (codes "join") then Some (Join group)
+    else None
+
+-- the command of that name, where the numbers after it make a group
+abbrev pub command_of : List ℕ → Option Parameters → Option Command
+command_of name None = None
+command_of name (Some group) = command_named name group
 
 -- what the words ask for, or nothing where they are no command
 abbrev pub plan : List (List ℕ) → Option Command
-plan (name ∷ faults ∷ need ∷ []) =
-    if bytes_eq name (codes "replay") then replay_of (group_of (number_of faults) (number_of need)) else None
+plan (name ∷ faults ∷ need ∷ []) = command_of name (group_of (number_of faults) (number_of need))
 plan _ = None

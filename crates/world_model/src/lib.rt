@@ -8,8 +8,8 @@ ghost use Rattle.std.specs.Fmt.{decimal};
 ghost use Rattle.craft_base.specs.Parameters.{Parameters};
 ghost use Rattle.world_model.specs.Numbers.{number_of};
 ghost use Rattle.world_model.specs.Schedule.{event_of, reading};
-ghost use Rattle.world_model.specs.Spelling.{IsAllGood, IsEventOf, IsFirstBad, IsGroup, IsNumber, SpellsEvent, SpellsReplay};
-ghost use Rattle.world_model.specs.Words.{Replay, plan};
+ghost use Rattle.world_model.specs.Spelling.{IsAllGood, IsCommand, IsEventOf, IsFirstBad, IsNumber, SpellsCommand, SpellsEvent};
+ghost use Rattle.world_model.specs.Words.{Command, plan};
 ghost use Rattle.world_model.specs.World.{Event};
 
 /// A word is read as a number exactly where it spells that number. Each number below 2^64 has one spelling, the decimal
@@ -41,14 +41,14 @@ pub fn bad_lines_are_told_by_their_bytes()
         (reading group bytes ≡ record { events = events; bad = Some n }) ↔ IsFirstBad group bytes events n }
 {}
 
-/// Words are read as the command `replay` of a group exactly where they spell it and the group's numbers are in range,
-/// and so as none where they are outside the grammar. Each group in range has one spelling.
+/// Words are read as a command, `replay`, `split` or `join` of a group, exactly where they spell it and the group's
+/// numbers are in range, and so as none where they are outside the grammar. Each command in range has one spelling.
 pub fn words_are_spelled_once()
-    ensures read { (words : List (List ℕ)) (group : Parameters) →
-        (plan words ≡ Some (Replay group)) ↔ (SpellsReplay words group × IsGroup group) }
+    ensures read { (words : List (List ℕ)) (command : Command) →
+        (plan words ≡ Some command) ↔ (SpellsCommand words command × IsCommand command) }
     ensures none { (words : List (List ℕ)) →
-        (plan words ≡ None) ↔ ((group : Parameters) → SpellsReplay words group → IsGroup group → ⊥) }
-    ensures once { (words others : List (List ℕ)) (group : Parameters) →
-        SpellsReplay words group → SpellsReplay others group → words ≡ others }
-    ensures each { (group : Parameters) → IsGroup group → (words : List (List ℕ)) × SpellsReplay words group }
+        (plan words ≡ None) ↔ ((command : Command) → SpellsCommand words command → IsCommand command → ⊥) }
+    ensures once { (words others : List (List ℕ)) (command : Command) →
+        SpellsCommand words command → SpellsCommand others command → words ≡ others }
+    ensures each { (command : Command) → IsCommand command → (words : List (List ℕ)) × SpellsCommand words command }
 {}

@@ -1,8 +1,8 @@
-use Rattle.world_model.proofs.CommandWords.{words_are_replay, words_are_none, one_command, some_command}
+use Rattle.world_model.proofs.CommandWords.{words_are_command, words_are_none, one_command, some_command}
 use Rattle.world_model.proofs.words_are_spelled_once.Goals as goal
 
 pub returns-clause-read : goal.returns-clause-read
-returns-clause-read c = words_are_replay
+returns-clause-read c = words_are_command
 
 pub returns-clause-none : goal.returns-clause-none
 returns-clause-none c = words_are_none

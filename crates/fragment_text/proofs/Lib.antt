@@ -1,0 +1,4 @@
+pub mod Printing
+pub mod Decoding
+pub mod Reading
+pub mod Joins
