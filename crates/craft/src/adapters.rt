@@ -6,7 +6,7 @@ use craft_edge::{Disk, Failed, Sink, Source};
 use std::alloc::{AllocError, Global};
 use std::io::{Read, Write};
 
-/// A source over any reader. It tells no bytes.
+/// A source over any reader. It tells no bytes, and gives those of the reader, where that knows them.
 #[derive(Drop)]
 pub struct ReaderSource<R> {
     pub reader: R,
@@ -14,11 +14,23 @@ pub struct ReaderSource<R> {
 }
 
 impl<R: Read> Source for ReaderSource<R> {
+    ghost use Rattle.std.specs.Prelude.{ℕ, List, Option, is_some};
+    ghost use Rattle.std.specs.Io.{ReadsAtMost};
+    ghost use Rattle.std.specs.Io.KnownBytes.{ReadConsumes};
+    ghost use Rattle.craft_edge.specs.Causes.{HasCause};
+
     ghost left = { λ source. None };
 
     ghost faults = { λ source. source.faults };
 
-    fn read(&mut self, buf: &mut [u8]) -> Result<usize, Failed> {
+    fn read(&mut self, buf: &mut [u8]) -> Result<usize, Failed>
+        ensures bound { ReadsAtMost result buf.new }
+        ensures bytes { ReadConsumes None None result buf.new }
+        ensures told { let left : Option (List ℕ) = None in is_some left ≡ is_some left }
+        ensures cause { HasCause self.old.faults self.new.faults result }
+
+        ensures given { ReadConsumes (R.remaining self.old.reader) (R.remaining self.new.reader) result buf.new }
+    {
         match self.reader.read(buf) {
             Ok(count) => Ok(count),
             Err(_) => {
@@ -29,7 +41,7 @@ impl<R: Read> Source for ReaderSource<R> {
     }
 }
 
-/// A sink over any writer. It tells no bytes.
+/// A sink over any writer. It tells no bytes, and hands them to the writer, where that knows what it holds.
 #[derive(Drop)]
 pub struct WriterSink<W> {
     pub writer: W,
@@ -37,11 +49,25 @@ pub struct WriterSink<W> {
 }
 
 impl<W: Write> Sink for WriterSink<W> {
+    ghost use Rattle.std.specs.Prelude.{ℕ, List, Option, ◌<◌, is_some};
+    ghost use Rattle.std.specs.Io.{WritesAtMost};
+    ghost use Rattle.std.specs.Io.KnownBytes.{WriteAppends};
+    ghost use Rattle.craft_edge.specs.Bytes.{WriteTakes};
+    ghost use Rattle.craft_edge.specs.Causes.{HasCause};
+
     ghost taken = { λ sink. None };
 
     ghost faults = { λ sink. sink.faults };
 
-    fn write(&mut self, bytes: &[u8]) -> Result<usize, Failed> {
+    fn write(&mut self, bytes: &[u8]) -> Result<usize, Failed>
+        ensures bound { WritesAtMost result bytes.now }
+        ensures bytes { WriteTakes None None result bytes.now }
+        ensures told { let taken : Option (List ℕ) = None in is_some taken ≡ is_some taken }
+        ensures stalled { IfOk result (λ n. n ≡ 0 → 0 < length bytes.now → Rose self.old.faults self.new.faults) }
+        ensures cause { HasCause self.old.faults self.new.faults result }
+
+        ensures kept { WriteAppends (W.contents self.old.writer) (W.contents self.new.writer) result bytes.now }
+    {
         match self.writer.write(bytes) {
             Ok(count) if count > 0 || bytes.is_empty() => Ok(count),
             _ => {
