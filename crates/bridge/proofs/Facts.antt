@@ -3,7 +3,7 @@ use Rattle.std.proofs.Common.{ℕ, ◌∙◌, List, ap, length}
 use Rattle.std.specs.List.{All}
 use Rattle.std.proofs.lemmas.List.Elements.{All-weaker}
 use Rattle.craft_base.specs.Parameters.{Parameters}
-use Rattle.world_model.specs.Messages.{Body, VoteRequest, VoteReply, Message}
+use Rattle.entry_frames.specs.Messages.{Body, VoteRequest, VoteReply, AppendEntries, Matched, Refused, Ask, Answer, Message}
 use Rattle.world_model.specs.Nodes.{Heard, Beat, Voted, Node}
 use Rattle.protocol.specs.History.{History}
 use Rattle.protocol.specs.Logs.{last_term}
@@ -20,6 +20,11 @@ module _ {g h : History} (x : Grows g h) where
         long = ap length kept ∙ a.long;
       }
   body_stays term sender receiver (VoteReply granted) a = λ yes. x.voted term sender receiver (a yes)
+  body_stays term sender receiver (AppendEntries prev prev_term commit entries) a = tt
+  body_stays term sender receiver (Matched prev count mask) a = tt
+  body_stays term sender receiver (Refused next) a = tt
+  body_stays term sender receiver (Ask start) a = tt
+  body_stays term sender receiver (Answer start last slots) a = tt
 
   pub message_stays : {m : Message} → MessageAgrees g m → MessageAgrees h m
   message_stays {m = m} a = record { apart = a.apart; body = body_stays m.term m.sender m.receiver m.body a.body }

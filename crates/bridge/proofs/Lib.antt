@@ -4,7 +4,6 @@ pub mod Facts
 pub mod Steps
 pub mod Rules
 pub mod Turn
-pub mod Places
 pub mod Start
 pub mod World
 pub mod Runs

@@ -6,7 +6,7 @@ use Rattle.world_model.specs.Nodes.{started, born}
 use Rattle.world_model.specs.World as world
 use Rattle.protocol.specs.History as protocol
 use Rattle.bridge.specs.Agreement.{MessageAgrees, NodeAgrees, WorldAgrees}
-use Rattle.bridge.proofs.Places.{made_at}
+use Rattle.world_model.proofs.Places.{made_at}
 
 started_agrees :
     (group : Parameters) (place : ℕ) → place < members_of group → NodeAgrees group protocol.start place (started group place born)

@@ -5,7 +5,7 @@ use Rattle.std.proofs.lemmas.Bool.{not-true, eqb-false}
 use Rattle.std.proofs.lemmas.List.Elements.{All-nil, All-cons, All-map, All-weaker, filter_passes}
 use Rattle.craft_base.specs.Parameters.{Parameters}
 use Rattle.world_model.specs.Knowledge.{members}
-use Rattle.world_model.specs.Messages.{Body, Message}
+use Rattle.entry_frames.specs.Messages.{Body, Message}
 use Rattle.world_model.specs.Nodes.{Node}
 use Rattle.world_model.specs.Rules.Acts.{Act, others, says, says_to_others, stays}
 use Rattle.protocol.specs.History.{History}

@@ -1,20 +1,20 @@
 -- A turn: a message first makes a node catch up, and then is taken by what it says.
-use Rattle.std.proofs.Common.{◌≡◌, ℕ, ◌++◌, ◌&&◌, ◌==◌, nat_lt, false, List, [], ◌∷◌, map, refl, ap}
+use Rattle.std.proofs.Common.{◌≡◌, ℕ, nat_lt, false}
 use Rattle.std.proofs.lemmas.Bool.{cond_both}
 use Rattle.craft_base.specs.Parameters.{Parameters}
-use Rattle.world_model.specs.Messages.{Body, VoteRequest, VoteReply, Message}
+use Rattle.entry_frames.specs.Messages.{Body, VoteRequest, VoteReply, AppendEntries, Matched, Refused, Ask, Answer, Message}
 use Rattle.world_model.specs.Nodes.{Node}
-use Rattle.world_model.specs.Rules.Acts.{Act, stays}
+use Rattle.world_model.specs.Rules.Acts.{stays}
 use Rattle.world_model.specs.Rules.Terms.{caught_up, refuses_stale}
-use Rattle.world_model.specs.Turn.{RoleChange, Send, takes_body, takes, same_role, told}
-use Rattle.world_model.specs.World.{sent_of}
+use Rattle.world_model.specs.Turn.{takes_body, takes}
+use Rattle.world_model.proofs.Turns.{caught_up_term}
 use Rattle.protocol.specs.History.{History}
 use Rattle.protocol.specs.Moves.{Reached}
 use Rattle.bridge.specs.Agreement.{MessageAgrees, NodeAgrees}
 use Rattle.bridge.specs.Bridges.{ActBridged}
 use Rattle.bridge.proofs.Facts.{message_stays}
-use Rattle.bridge.proofs.Steps.{reached_grows, then_moved}
-use Rattle.bridge.proofs.Rules.Terms.{caught_up_bridged, caught_up_term, refuses_stale_bridged}
+use Rattle.bridge.proofs.Steps.{reached_grows, then_moved, unmoved_stays}
+use Rattle.bridge.proofs.Rules.Terms.{caught_up_bridged, refuses_stale_bridged}
 use Rattle.bridge.proofs.Rules.Vote.{considers_vote_bridged}
 use Rattle.bridge.proofs.Rules.VoteReply.{counts_reply_bridged}
 use Rattle.protocol.proofs.Runs.{moves_trans}
@@ -27,6 +27,11 @@ takes_body_bridged :
 takes_body_bridged sender (VoteRequest last_of last) reached a told =
     considers_vote_bridged reached a sender told.apart last_of last told.body
 takes_body_bridged sender (VoteReply granted) reached a told = counts_reply_bridged sender granted reached a told
+takes_body_bridged sender (AppendEntries prev prev_term commit entries) reached a told = unmoved_stays a
+takes_body_bridged sender (Matched prev count mask) reached a told = unmoved_stays a
+takes_body_bridged sender (Refused next) reached a told = unmoved_stays a
+takes_body_bridged sender (Ask start) reached a told = unmoved_stays a
+takes_body_bridged sender (Answer start last slots) reached a told = unmoved_stays a
 
 module _
     {shape : Parameters} {g : History} {n : Node} {m : Message} (reached : Reached shape.faults g) (a : NodeAgrees shape g m.receiver n)
@@ -47,15 +52,3 @@ module _
   takes_bridged =
       cond_both (nat_lt m.term n.durable.term) (refuses_stale n m) (takes_body (caught_up n m) m.sender m.body)
       (ActBridged shape g m.receiver) (λ lower. refuses_stale_bridged a m told.apart) takes_current_bridged
-
-sent_of_sends : (sends : List Message) → sent_of (map Send sends) ≡ sends
-sent_of_sends [] = refl
-sent_of_sends (m ∷ sends) = ap (λ rest. m ∷ rest) (sent_of_sends sends)
-
--- what a turn puts on the network is what the rule sends
-pub sent_of_told : (before : Node) (act : Act) → sent_of (told before act).outputs ≡ act.sends
-sent_of_told before act =
-    let now = act.node in
-    cond_both (same_role before.volatile.role now.volatile.role && (before.durable.term == now.durable.term)) []
-    (RoleChange now.volatile.role now.durable.term ∷ []) (λ first. sent_of (first ++ map Send act.sends) ≡ act.sends)
-    (λ same. sent_of_sends act.sends) (λ other. sent_of_sends act.sends)

@@ -5,20 +5,21 @@ use Rattle.std.proofs.lemmas.Bool.{cases_eq}
 use Rattle.std.proofs.lemmas.List.Elements.{All-append, All-same}
 use Rattle.std.proofs.lemmas.Option.{slice_get_within, get_or_from_slice_get, same_Some}
 use Rattle.craft_base.specs.Parameters.{Parameters}
-use Rattle.world_model.specs.Messages.{Message}
+use Rattle.entry_frames.specs.Messages.{Message}
 use Rattle.world_model.specs.Nodes.{Node}
 use Rattle.world_model.specs.Rules.Acts.{Act}
 use Rattle.world_model.specs.Turn.{Input, Tick, Deliver, acts, told}
 use Rattle.world_model.specs.World as world
+use Rattle.world_model.proofs.Places.{set_here, set_there}
+use Rattle.world_model.proofs.Turns.{sent_of_told}
 use Rattle.protocol.specs.History as protocol
 use Rattle.protocol.specs.Moves.{Reached, None_yet}
 use Rattle.bridge.specs.Agreement.{MessageAgrees, NodeAgrees, WorldAgrees}
 use Rattle.bridge.specs.Bridges.{ActBridged, WorldBridged}
 use Rattle.bridge.proofs.Facts.{messages_stay, node_stays}
 use Rattle.bridge.proofs.Steps.{reached_grows}
-use Rattle.bridge.proofs.Places.{set_here, set_there}
 use Rattle.bridge.proofs.Rules.Tick.{ticks_bridged}
-use Rattle.bridge.proofs.Turn.{takes_bridged, sent_of_told}
+use Rattle.bridge.proofs.Turn.{takes_bridged}
 
 module _
     {shape : Parameters} {g : protocol.History} {w : world.World} (reached : Reached shape.faults g) (a : WorldAgrees shape g w)

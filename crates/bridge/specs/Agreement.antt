@@ -1,7 +1,7 @@
 -- When a world of the turn agrees with a history of the protocol: one field a fact.
 use Rattle.std.specs.Prelude.{◌≡◌, ◌≢◌, ℕ, ◌<◌, true, All, length, Some, slice_get}
 use Rattle.craft_base.specs.Parameters.{Parameters, members_of}
-use Rattle.world_model.specs.Messages.{Body, VoteRequest, VoteReply, Message}
+use Rattle.entry_frames.specs.Messages.{Body, VoteRequest, VoteReply, AppendEntries, Matched, Refused, Ask, Answer, Message}
 use Rattle.world_model.specs.Nodes.{Heard, Beat, Voted, Node}
 use Rattle.world_model.specs.World.{World}
 use Rattle.protocol.specs.History.{History}
@@ -14,10 +14,16 @@ pub record AskAgrees (h : History) (term candidate last_of last : ℕ) : Type 0 
   pub ends : last_term (h.stood term candidate) ≡ last_of
   pub long : length (h.stood term candidate) ≡ last
 
--- what a message of the term says is true: a candidate that asks stood, and a vote that is granted was cast
+-- what a message of the term says is true: a candidate that asks stood, and a vote that is granted was cast. No rule takes the
+-- other messages yet, and nothing is asked of them
 abbrev pub BodyAgrees : History → (term sender receiver : ℕ) → Body → Type 0
 BodyAgrees h term sender receiver (VoteRequest last_of last) = AskAgrees h term sender last_of last
 BodyAgrees h term sender receiver (VoteReply granted) = granted ≡ true → h.voted term sender ≡ Some receiver
+BodyAgrees h term sender receiver (AppendEntries prev prev_term commit entries) = Unit {0}
+BodyAgrees h term sender receiver (Matched prev count mask) = Unit {0}
+BodyAgrees h term sender receiver (Refused next) = Unit {0}
+BodyAgrees h term sender receiver (Ask start) = Unit {0}
+BodyAgrees h term sender receiver (Answer start last slots) = Unit {0}
 
 -- a message goes to another member, and says what is true. It stays so while history grows.
 pub record MessageAgrees (h : History) (m : Message) : Type 0 where

@@ -3,14 +3,14 @@ use Rattle.std.specs.Prelude.{List, map}
 use Rattle.craft_base.specs.declared.command.Entry.{Entry}
 use Rattle.craft_base.specs.declared.command.Form.{Form}
 use Rattle.craft_base.specs.declared.command.Form.TheVariants.{Whole, Part}
-use Rattle.world_model.specs.Nodes.{Role, Follower, Candidate, Leader}
+use Rattle.entry_frames.specs.Outputs.{Role, Follower, Candidate, Preparing, Leader}
 use Rattle.protocol.specs.History as protocol
 use Rattle.protocol.specs.Logs as slots
 
--- a leader leads as soon as it has won: it doesn't prepare
 abbrev pub role_seen : Role → protocol.Role
 role_seen Follower = protocol.Follower
 role_seen Candidate = protocol.Candidate
+role_seen Preparing = protocol.Preparing
 role_seen Leader = protocol.Leading
 
 abbrev pub mark_seen : Form → slots.Mark

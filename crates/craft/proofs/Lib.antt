@@ -4,6 +4,7 @@ mod Worlds
 mod Progressing
 mod Reading
 mod Roles
+mod Spelled
 mod Asked
 mod Printing
 mod Sending

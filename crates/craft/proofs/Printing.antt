@@ -3,29 +3,29 @@ use Rattle.std.proofs.Common.{◌≡◌, ℕ, suc, zero, ◌+◌, ◌<◌, ◌�
 use Rattle.std.proofs.lemmas.List.{length-map}
 use Rattle.std.proofs.Math.ListN.{drop_of_length-le}
 use Rattle.world_model.specs.Lines.{output_line, output_lines, next_frame}
-use Rattle.world_model.specs.Turn as turns
-use Rattle.craft.specs.declared.node.turn.Output.{Output}
+use Rattle.entry_frames.specs.Outputs as told
+use Rattle.peer_frames.specs.declared.output.Output.{Output}
 use Rattle.craft.specs.Turns.{kept_output}
 
-at_place : (all : List turns.Output) (i : ℕ) → i < length (map kept_output all) → (item : Output) → item ≡ get_or (map kept_output all) i item
-    → (o : turns.Output) × (item ≡ kept_output o) × (drop i all ≡ o ∷ drop (suc i) all)
+at_place : (all : List told.Output) (i : ℕ) → i < length (map kept_output all) → (item : Output) → item ≡ get_or (map kept_output all) i item
+    → (o : told.Output) × (item ≡ kept_output o) × (drop i all ≡ o ∷ drop (suc i) all)
 at_place [] i within item is_item = absurd (omega arith)
 at_place (o ∷ all) zero within item is_item = (o, is_item, refl)
 at_place (o ∷ all) (suc i) within item is_item = at_place all i (omega (arith, within)) item is_item
 
 -- the code's output at a place is what is told there
-pub next_output : (all : List turns.Output) (outputs : List Output) (i : ℕ) → outputs ≡ map kept_output all → i < length outputs
-    → (item : Output) → item ≡ get_or outputs i item → (o : turns.Output) × (item ≡ kept_output o) × (drop i all ≡ o ∷ drop (i + 1) all)
+pub next_output : (all : List told.Output) (outputs : List Output) (i : ℕ) → outputs ≡ map kept_output all → i < length outputs
+    → (item : Output) → item ≡ get_or outputs i item → (o : told.Output) × (item ≡ kept_output o) × (drop i all ≡ o ∷ drop (i + 1) all)
 next_output all outputs i is_all within item is_item =
     let here : i < length (map kept_output all) = omega (arith, within, ap length is_all) in
     rw add-one (at_place all i here item (is_item ∙ ap (λ os. get_or os i item) is_all))
 
 -- past the last output nothing is told
-pub none_left : (all : List turns.Output) (outputs : List Output) (i : ℕ) → outputs ≡ map kept_output all → length outputs ≤ i → drop i all ≡ []
+pub none_left : (all : List told.Output) (outputs : List Output) (i : ℕ) → outputs ≡ map kept_output all → length outputs ≤ i → drop i all ≡ []
 none_left all outputs i is_all past = drop_of_length-le all (omega (arith, past, ap length is_all, length-map all kept_output))
 
 -- the line of one output, and the lines of what is left
-pub printed_more : (text longer : List ℕ) (me frame next : ℕ) (o : turns.Output) (left rest : List turns.Output) → left ≡ o ∷ rest
+pub printed_more : (text longer : List ℕ) (me frame next : ℕ) (o : told.Output) (left rest : List told.Output) → left ≡ o ∷ rest
     → longer ≡ text ++ output_line me frame o → next ≡ next_frame frame o → longer ++ output_lines me next rest ≡ text ++ output_lines me frame left
 printed_more text longer me frame next o left rest is_left line number =
     ap (λ t. t ++ output_lines me next rest) line

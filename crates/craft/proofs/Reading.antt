@@ -9,10 +9,10 @@ use Rattle.world_model.specs.World as model
 use Rattle.world_model.proofs.Inputs.{lines_of-line, lines_of-unended, lines_of-long, reading-bad, unended_is_bad, long_is_bad, late_is_bad, good_line}
 use Rattle.line_input.specs.declared.line.LineEnd.{LineEnd}
 use Rattle.line_input.specs.declared.line.LineEnd.TheVariants.{LineFeed, Broken}
-use Rattle.craft.specs.declared.world.Event.{Event}
+use Rattle.schedule_text.specs.declared.line.Line.{Line}
+use Rattle.schedule_text.specs.Events.{line_of_event}
 use Rattle.line_input.specs.Lines.{TakesLine, HasNoLineFeed}
 use Rattle.craft.specs.Replaying.{WhereTold}
-use Rattle.craft.specs.Worlds.{kept_event}
 
 -- the reading of an input whose first line is bad
 abbrev pub BadFirst : Parameters → ℕ → List ℕ → Type 0
@@ -66,14 +66,10 @@ at_end None new taken end = tt
 at_end (Some before) None taken end = absurd taken
 at_end (Some before) (Some after) taken end = (taken ∙ end, end)
 
--- the code's event is an event
-pub event_found : (said : Option model.Event) (event : Event) → Some event ≡ option_map kept_event said → (e : model.Event) × (said ≡ Some e) × (event ≡ kept_event e)
-event_found None event found = cc
-event_found (Some e) event found = (e, refl, cc)
-
-pub event_none : (said : Option model.Event) → None ≡ option_map kept_event said → said ≡ None
-event_none None none = refl
-event_none (Some e) none = cc
+-- the code's line is an event's
+pub event_found : (said : Option model.Event) (asked : Line) → Some asked ≡ option_map line_of_event said → (e : model.Event) × (said ≡ Some e) × (asked ≡ line_of_event e)
+event_found None asked found = cc
+event_found (Some e) asked found = (e, refl, cc)
 
 -- any line past the last is bad
 pub late_line : (group : Parameters) (old new : Option (List ℕ)) (text : List ℕ) (end : LineEnd) → (end ≡ Broken) ⊎ (end ≡ LineFeed) → TakesLine old new text end

@@ -1,8 +1,9 @@
 -- The code's roles are those of the definitions.
 use Rattle.std.proofs.Common.{◌≡◌, ◌⊎◌, inl, inr, ℕ, Bool, true, cond, refl, ap, ◌∙◌, sym}
-use Rattle.world_model.specs.Nodes.{Role, Follower, Candidate, Leader, Node}
+use Rattle.entry_frames.specs.Outputs.{Role, Follower, Candidate, Preparing, Leader}
+use Rattle.world_model.specs.Nodes.{Node}
 use Rattle.world_model.specs.Rules.VoteReply.{hears_vote, leads_if_won, counts_reply, counts_reply_as}
-use Rattle.craft.specs.declared.node.Role.TheVariants as roles
+use Rattle.peer_frames.specs.declared.output.Role.TheVariants as roles
 use Rattle.world_model.specs.Rules.Acts.{stays}
 use Rattle.world_model.specs.Rules.Tick.{is_due, waits, as_candidate, asks_for_votes, waits_or_stands, ticks, ticks_as}
 use Rattle.craft.specs.declared.node.Node.{Node as Kept}
@@ -11,6 +12,7 @@ use Rattle.craft.specs.Kept.{kept_node, kept_role}
 pub candidate_kept : (role : Role) → kept_role role ≡ roles.Candidate → role ≡ Candidate
 candidate_kept Follower e = cc
 candidate_kept Candidate e = refl
+candidate_kept Preparing e = cc
 candidate_kept Leader e = cc
 
 -- a candidate hears the reply, and leads if it has won
@@ -21,6 +23,7 @@ counts_as_candidate n sender granted e = ap (λ role. counts_reply_as role n sen
 pub follower_kept : (role : Role) → kept_role role ≡ roles.Follower → role ≡ Follower
 follower_kept Follower e = refl
 follower_kept Candidate e = cc
+follower_kept Preparing e = cc
 follower_kept Leader e = cc
 
 -- a follower or a candidate waits, and stands where it is due

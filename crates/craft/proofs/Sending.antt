@@ -4,13 +4,13 @@ use Rattle.std.specs.Prelude.{◌==◌}
 use Rattle.std.specs.List.{range_with_len}
 use Rattle.std.proofs.lemmas.List.{map-append}
 use Rattle.std.proofs.lemmas.List.Elements.{filter-append}
-use Rattle.world_model.specs.Messages as model
+use Rattle.entry_frames.specs.Messages as model
 use Rattle.world_model.specs.Nodes as nodes
 use Rattle.world_model.specs.Logs.{last_index, last_term}
 use Rattle.world_model.specs.Rules.Acts.{says, others, says_to_others}
 use Rattle.world_model.specs.Rules.Tick.{asks_for_votes}
-use Rattle.craft.specs.declared.message.Body.TheVariants as bodies
-use Rattle.craft.specs.declared.message.Body.{Body}
+use Rattle.peer_frames.specs.declared.message.Peer.TheVariants as bodies
+use Rattle.peer_frames.specs.declared.message.Peer.{Peer}
 use Rattle.craft.specs.declared.node.Node.{Node}
 use Rattle.craft.specs.Kept.{kept_node, kept_body, kept_message}
 use Rattle.craft.specs.Says.{message_from, messages_to, messages_to_others}
@@ -27,7 +27,7 @@ range_more-from_0 n =
     rw add-one (range_more 0 n ∙ ap (λ k. range_with_len 0 n ++ k ∷ []) e)
 
 -- one member more is sent to after those before it
-pub messages_to-more : (n : ℕ) (node : Node) (body : Body)
+pub messages_to-more : (n : ℕ) (node : Node) (body : Peer)
     → messages_to (range_with_len 0 (n + 1)) node body ≡ messages_to (range_with_len 0 n) node body ++ messages_to (n ∷ []) node body
 messages_to-more n node body =
     ap (λ ks. messages_to ks node body) (range_more-from_0 n)
@@ -44,7 +44,7 @@ kept-says_to_others n body = kept_each n body (others n)
 
 -- a candidate's requests
 pub kept-asks_for_votes : (node : Node) (n : nodes.Node) → node ≡ kept_node n
-    → messages_to_others node (bodies.VoteRequest node.log_end.term node.log_end.index) ≡ map kept_message (asks_for_votes n).sends
+    → messages_to_others node (bodies.Vote node.log_end.term node.log_end.index) ≡ map kept_message (asks_for_votes n).sends
 kept-asks_for_votes node n e =
-    ap (λ k. messages_to_others k (bodies.VoteRequest k.log_end.term k.log_end.index)) e
+    ap (λ k. messages_to_others k (bodies.Vote k.log_end.term k.log_end.index)) e
     ∙ sym (kept-says_to_others n (model.VoteRequest (last_term n.durable.log) (last_index n.durable.log)))

@@ -1,13 +1,17 @@
 -- The messages among what members tell.
 use Rattle.std.proofs.Common.{◌≡◌, ℕ, ◌+◌, ◌<◌, List, [], ◌∷◌, ◌++◌, length, take, get_or, refl, ap, ◌∙◌}
 use Rattle.std.proofs.lemmas.List.{take_more}
-use Rattle.craft.specs.declared.node.turn.Output.{Output}
-use Rattle.craft.specs.declared.node.turn.Output.TheVariants.{RoleChange, Send}
-use Rattle.craft.specs.Worlds.{messages_among}
+use Rattle.peer_frames.specs.declared.output.Output.{Output}
+use Rattle.peer_frames.specs.declared.output.Output.TheVariants.{Role, Cut, Whole, Commit, Reply, Send}
+use Rattle.craft.specs.Frames.{messages_among}
 
 pub messages_among-append : (xs ys : List Output) → messages_among (xs ++ ys) ≡ messages_among xs ++ messages_among ys
 messages_among-append [] ys = refl
-messages_among-append (RoleChange role term ∷ xs) ys = messages_among-append xs ys
+messages_among-append (Role role term ∷ xs) ys = messages_among-append xs ys
+messages_among-append (Cut index prep ∷ xs) ys = messages_among-append xs ys
+messages_among-append (Whole index ∷ xs) ys = messages_among-append xs ys
+messages_among-append (Commit index ∷ xs) ys = messages_among-append xs ys
+messages_among-append (Reply place client seq reply ∷ xs) ys = messages_among-append xs ys
 messages_among-append (Send m ∷ xs) ys = ap (λ ms. m ∷ ms) (messages_among-append xs ys)
 
 -- one output more

@@ -1,24 +1,33 @@
 -- An event at the code's world is the event at the world that it stands for.
-use Rattle.std.proofs.Common.{◌≡◌, ℕ, suc, zero, ◌<◌, List, [], ◌∷◌, ◌++◌, length, map, get_or, refl, ap, ◌∙◌, sym, subst, arith, Some}
+use Rattle.std.proofs.Common.{◌≡◌, ℕ, suc, zero, ◌-◌, ◌<◌, List, [], ◌∷◌, ◌++◌, length, map, get_or, refl, ap, ◌∙◌, sym, subst, arith, Option, None, Some}
 use Rattle.std.specs.Prelude.{slice_get, slice_set}
 use Rattle.std.specs.List.{range_with_len}
 use Rattle.std.proofs.lemmas.List.{map-append, map-set}
 use Rattle.world_model.specs.Nodes as members
-use Rattle.world_model.specs.Messages as messages
+use Rattle.entry_frames.specs.Messages as messages
+use Rattle.entry_frames.specs.Outputs as told
 use Rattle.world_model.specs.Turn as turns
 use Rattle.world_model.specs.World as model
-use Rattle.craft.specs.declared.message.Message.{Message}
+use Rattle.peer_frames.specs.declared.message.Message.{Message}
+use Rattle.world_model.specs.Ranges.{InRange}
+use Rattle.world_model.proofs.Ranges.Worlds.{step_in_range}
 use Rattle.craft.specs.declared.node.Node.{Node}
-use Rattle.craft.specs.declared.node.turn.Output.{Output}
+use Rattle.craft.specs.declared.world.World.{World}
+use Rattle.peer_frames.specs.declared.output.Output.{Output}
 use Rattle.craft.specs.declared.world.Verdict.TheVariants as verdicts
 use Rattle.craft.specs.Kept.{kept_node, kept_message}
 use Rattle.craft.specs.Turns.{kept_output}
-use Rattle.craft.specs.Worlds.{kept_verdict, messages_among}
+use Rattle.craft.specs.Frames.{messages_among}
+use Rattle.craft.specs.Worlds.{StandsFor, kept_frame, kept_verdict}
 
-messages_kept : (outputs : List turns.Output) → messages_among (map kept_output outputs) ≡ map kept_message (model.sent_of outputs)
+messages_kept : (outputs : List told.Output) → messages_among (map kept_output outputs) ≡ map kept_message (model.sent_of outputs)
 messages_kept [] = refl
-messages_kept (turns.RoleChange role term ∷ outputs) = messages_kept outputs
-messages_kept (turns.Send m ∷ outputs) = ap (λ ms. kept_message m ∷ ms) (messages_kept outputs)
+messages_kept (told.RoleChange role term ∷ outputs) = messages_kept outputs
+messages_kept (told.Cut index prepares ∷ outputs) = messages_kept outputs
+messages_kept (told.BecameWhole index ∷ outputs) = messages_kept outputs
+messages_kept (told.Committed index ∷ outputs) = messages_kept outputs
+messages_kept (told.Answers place client seq reply ∷ outputs) = messages_kept outputs
+messages_kept (told.Send m ∷ outputs) = ap (λ ms. kept_message m ∷ ms) (messages_kept outputs)
 
 -- a code's node stands for a node at the same place
 pub node_found : (ns : List members.Node) (place : ℕ) (node : Node) → place < length (map kept_node ns) → node ≡ get_or (map kept_node ns) place node
@@ -67,9 +76,31 @@ pub started_kept : (start : ℕ → members.Node) (count : ℕ) (nodes : List No
     → nodes ≡ map kept_node (map start (range_with_len 0 count))
 started_kept start count nodes is_nodes = is_nodes ∙ sym (each_kept start (range_with_len 0 count))
 
--- the code's frame is a frame of the world that it stands for
-pub frame_found : (ms : List messages.Message) (place : ℕ) (message : Message) → slice_get (map kept_message ms) place ≡ Some message
-    → (m : messages.Message) × (slice_get ms place ≡ Some m) × (message ≡ kept_message m)
-frame_found [] place message found = cc
-frame_found (m ∷ ms) zero message found = (m, refl, cc)
-frame_found (m ∷ ms) (suc place) message found = frame_found ms place message found
+-- what the code found of a frame is what the world has
+pub frame_found : (ms : Option messages.Message) (message : Message) → Some message ≡ kept_frame ms → (m : messages.Message) × (ms ≡ Some m) × (message ≡ kept_message m)
+frame_found None message found = cc
+frame_found (Some m) message found = (m, refl, cc)
+
+pub none_found : (ms : Option messages.Message) → None ≡ kept_frame ms → ms ≡ None
+none_found None none = refl
+none_found (Some m) none = cc
+
+-- the delivery of a message that was sent leaves all numbers in range
+pub delivered_in_range :
+    (code : World) (w : model.World) → StandsFor code w → (frame : ℕ) (m : messages.Message) → slice_get w.sent (frame - 1) ≡ Some m →
+    (receiver : ℕ) → receiver ≡ m.receiver → InRange code.shape (model.turn_at w receiver (turns.Deliver m)).world
+delivered_in_range code w s frame m sent receiver goes =
+    subst (λ to. InRange code.shape (model.turn_at w to (turns.Deliver m)).world) (sym goes)
+    (subst (λ o. InRange code.shape (model.delivery w o).world) sent (step_in_range s.group s.in_range (model.Take frame)))
+
+-- so does a tick
+pub ticked_in_range : (code : World) (w : model.World) → StandsFor code w → (member word : ℕ) → InRange code.shape (model.turn_at w member (turns.Tick word)).world
+ticked_in_range code w s member word = step_in_range s.group s.in_range (model.TickAt member word)
+
+-- the node whose turn it is stands for the world's
+pub node_here :
+    (code : World) (w : model.World) → StandsFor code w → (member place : ℕ) (node : Node) → place ≡ member → member < length code.nodes.items →
+    node ≡ get_or code.nodes.items place node → (n : members.Node) × (slice_get w.nodes member ≡ Some n) × (node ≡ kept_node n)
+node_here code w s member place node same within is =
+    node_found w.nodes member node (omega (arith, ap length s.nodes, within))
+    (is ∙ ap (λ p. get_or code.nodes.items p node) same ∙ ap (λ ns. get_or ns member node) s.nodes)

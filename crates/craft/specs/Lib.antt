@@ -1,5 +1,6 @@
 pub mod Commands
 pub mod Faults
+pub mod Frames
 pub mod Kept
 pub mod Program
 pub mod Replaying

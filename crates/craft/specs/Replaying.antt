@@ -9,9 +9,10 @@ use Rattle.world_model.specs.Schedule.{Reading, with_event, reading, reading_fro
 use Rattle.world_model.specs.World as model
 use Rattle.craft.specs.declared.replay_end.ReplayEnd.{ReplayEnd}
 use Rattle.craft.specs.declared.replay_end.ReplayEnd.TheVariants.{End, Bad, SourceFault, SinkFault, NoMemory}
-use Rattle.craft.specs.declared.world.Event.{Event}
+use Rattle.schedule_text.specs.declared.line.Line.{Line}
+use Rattle.schedule_text.specs.Events.{line_of_event}
 use Rattle.craft.specs.declared.world.World.{World}
-use Rattle.craft.specs.Worlds.{StandsFor, kept_event}
+use Rattle.craft.specs.Worlds.{StandsFor}
 
 -- a fact of what was told before a call and after it, where it was told
 abbrev pub WhereTold : Option (List ℕ) → Option (List ℕ) → (List ℕ → List ℕ → Type 0) → Type 0
@@ -21,10 +22,10 @@ WhereTold (Some before) (Some after) Fact = Fact before after
 
 -- An event was read: what was to come says that event first, and then what is still to come.
 -- Or there was no line any more.
-abbrev pub ReadsEvent : Parameters → ℕ → Option (List ℕ) → Option (List ℕ) → Option Event → Type 0
+abbrev pub ReadsEvent : Parameters → ℕ → Option (List ℕ) → Option (List ℕ) → Option Line → Type 0
 ReadsEvent group number old new None = WhereTold old new (λ before after. (before ≡ []) × (after ≡ []))
-ReadsEvent group number old new (Some event) =
-    (e : model.Event) × (event ≡ kept_event e)
+ReadsEvent group number old new (Some line) =
+    (e : model.Event) × (line ≡ line_of_event e)
     × WhereTold old new (λ before after. reading_from group number (lines_of before) ≡ with_event e (reading_from group (number + 1) (lines_of after)))
 
 -- No event was read: the line with that number is bad, or the source failed.

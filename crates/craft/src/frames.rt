@@ -1,20 +1,57 @@
-//! The frames of a network: the messages that members send, in their order.
-ghost use Rattle.std.specs.Prelude.{◌≡◌, ◌++◌, OnOk};
-ghost use Rattle.craft.specs.Worlds.{messages_among};
+//! The frames of a network: the messages that members send, in their order, each as its bytes.
+ghost use Rattle.std.specs.Prelude.{◌≡◌, ◌++◌, ◌∷◌, [], All, IfOk, OnOk, Some, map};
+ghost use Rattle.entry_frames.specs.Messages as plain;
+ghost use Rattle.world_model.specs.Ranges.{HasSpelling};
+ghost use Rattle.craft.specs.Frames.{frame_bytes, messages_among, CanBeSent};
+ghost use Rattle.craft.specs.Kept.{kept_message};
 
-use crate::message::Message;
-use crate::node::Output;
-use craft_base::OutOfMemory;
+use craft_base::{Blob, OutOfMemory, Shape};
+use peer_frames::{Message, MessageView, Output, write_message};
+use std::alloc::Global;
 
 /// Adds the messages among what a member told to those that were sent.
-pub fn keep_messages(sent: &mut Vec<Message>, outputs: &[Output]) -> Result<(), OutOfMemory>
-    ensures { OnOk result (sent.new.items ≡ sent.old.items ++ messages_among outputs.now) }
+pub fn keep_messages(
+    alloc: Global,
+    shape: &Shape,
+    sent: &mut Vec<Blob>,
+    outputs: &[Output],
+) -> Result<(), OutOfMemory>
+    requires { All (CanBeSent shape.now) outputs.now }
+    ensures { OnOk result (sent.new.items ≡ sent.old.items ++ map (frame_bytes shape.now) (messages_among outputs.now)) }
 {
     for output in outputs {
-        match output {
-            Output::RoleChange { .. } => {}
-            Output::Send(message) => sent.push(*message)?,
-        }
+        keep_message(alloc, shape, sent, output)?;
     }
     Ok(())
+}
+
+/// Adds what a member sends, if it sends something.
+fn keep_message(
+    alloc: Global,
+    shape: &Shape,
+    sent: &mut Vec<Blob>,
+    output: &Output,
+) -> Result<(), OutOfMemory>
+    requires { CanBeSent shape.now output.now }
+    ensures { OnOk result (sent.new.items ≡ sent.old.items ++ map (frame_bytes shape.now) (messages_among (output.now ∷ []))) }
+{
+    match output {
+        Output::Send { message } => sent.push(write_message(alloc, shape, message)?)?,
+        Output::Role { .. }
+        | Output::Cut { .. }
+        | Output::Whole { .. }
+        | Output::Commit { .. }
+        | Output::Reply { .. } => {}
+    }
+    Ok(())
+}
+
+/// The message in a frame, where the bytes are one. What a member sent always is.
+pub fn frame_in(alloc: Global, shape: &Shape, bytes: &[u8]) -> Result<Option<Message>, OutOfMemory>
+    ensures { IfOk result (λ found. (m : plain.Message) → HasSpelling shape.now m → bytes.now ≡ frame_bytes shape.now (kept_message m) → found ≡ Some (kept_message m)) }
+{
+    match MessageView::read(shape, bytes) {
+        Ok(view) => Ok(Some(view.to_message(alloc)?)),
+        Err(_) => Ok(None),
+    }
 }

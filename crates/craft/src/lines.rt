@@ -1,115 +1,106 @@
 //! The text of a run: for each event its number and verdict, and a line for each output.
-ghost use Rattle.std.specs.Prelude.{◌≡◌, ◌+◌, ◌^◌, ◌<◌, ◌≤◌, ◌++◌, List, length, map, IfOk, OnOk, string_bytes};
-ghost use Rattle.craft.specs.Kept.{kept_role, kept_message};
+ghost use Rattle.std.specs.Prelude.{◌≡◌, ◌+◌, ◌^◌, ◌<◌, ◌≤◌, ◌++◌, ◌∷◌, [], List, length, map, true, false, OnOk};
+ghost use Rattle.std.specs.Fmt.{decimal};
 ghost use Rattle.craft.specs.Turns.{kept_output};
 ghost use Rattle.craft.specs.Worlds.{TellsOf, kept_verdict};
+ghost use Rattle.entry_frames.specs.Outputs as told;
+ghost use Rattle.schedule_text.specs.Sends.{SendsPeer};
 ghost use Rattle.world_model.specs.Lines as lines;
-ghost use Rattle.world_model.specs.Messages as messages;
-ghost use Rattle.world_model.specs.Nodes as nodes;
-ghost use Rattle.world_model.specs.Turn as turns;
 ghost use Rattle.world_model.specs.World as model;
 
-use crate::message::{Body, Message};
-use crate::node::{Output, Role};
 use crate::world::{Happened, Verdict};
 use craft_base::{MemberId, OutOfMemory};
-use std::fmt::Write;
+use peer_frames::{Message, Output};
+use schedule_text::line_of;
+use std::alloc::Global;
 
 /// Adds the text of an event with that number. `frame` is the number of the next frame that is sent.
 pub fn push_event(
-    text: &mut String,
+    alloc: Global,
+    text: &mut Vec<u8>,
     number: u64,
     frame: u64,
     happened: &Happened,
 ) -> Result<(), OutOfMemory>
     requires { frame + length happened.now.outputs.items < 2 ^ 64 }
-    ensures { OnOk result ((h : model.Happened) → TellsOf happened.now h → string_bytes text.new ≡ string_bytes text.old ++ lines.event_lines number frame h) }
+    ensures { OnOk result ((h : model.Happened) → TellsOf happened.now h → text.new.items ≡ text.old.items ++ lines.event_lines number frame h) }
 {
-    let verdict = verdict_word(happened.verdict);
-    writeln!(text, "{number} {verdict}")?;
-    push_outputs(text, happened.member, frame, &happened.outputs)?;
+    push_verdict(alloc, text, number, happened.verdict)?;
+    push_outputs(alloc, text, happened.member, frame, &happened.outputs)?;
+    Ok(())
+}
+
+/// Adds the line of an event with that number.
+fn push_verdict(
+    alloc: Global,
+    text: &mut Vec<u8>,
+    number: u64,
+    verdict: Verdict,
+) -> Result<(), OutOfMemory>
+    ensures { OnOk result ((v : model.Verdict) → verdict ≡ kept_verdict v → text.new.items ≡ text.old.items ++ lines.line_of (decimal number ∷ lines.verdict_word v ∷ [])) }
+{
+    let word = verdict_word(verdict);
+    let line = format!(in alloc; "{number} {word}\n")?;
+    text.extend_from_slice(line.as_bytes())?;
     Ok(())
 }
 
 /// Adds a line for each output of a member.
 fn push_outputs(
-    text: &mut String,
+    alloc: Global,
+    text: &mut Vec<u8>,
     member: MemberId,
     frame: u64,
     outputs: &[Output],
 ) -> Result<(), OutOfMemory>
     requires { frame + length outputs.now < 2 ^ 64 }
-    ensures { OnOk result ((os : List turns.Output) → outputs.now ≡ map kept_output os → string_bytes text.new ≡ string_bytes text.old ++ lines.output_lines member frame os) }
+    ensures { OnOk result ((os : List told.Output) → outputs.now ≡ map kept_output os → text.new.items ≡ text.old.items ++ lines.output_lines member frame os) }
 {
     let mut frame = frame;
     for output in outputs {
-        frame = push_output(text, member, frame, output)?;
+        push_output(alloc, text, member, frame, output)?;
+        frame = next_frame(frame, output);
     }
     Ok(())
 }
 
-/// Adds the line of one output of a member, and answers the number of the next frame.
+/// Adds the line of one output of a member. What it sends goes to a member.
 fn push_output(
-    text: &mut String,
+    alloc: Global,
+    text: &mut Vec<u8>,
     member: MemberId,
     frame: u64,
     output: &Output,
-) -> Result<u64, OutOfMemory>
-    requires { frame + 1 < 2 ^ 64 }
-    ensures line { OnOk result ((o : turns.Output) → output.now ≡ kept_output o → string_bytes text.new ≡ string_bytes text.old ++ lines.output_line member frame o) }
-    ensures next { IfOk result (λ next. (o : turns.Output) → output.now ≡ kept_output o → next ≡ lines.next_frame frame o) }
-    ensures range { IfOk result (λ next. next ≤ frame + 1) }
+) -> Result<(), OutOfMemory>
+    ensures { OnOk result ((o : told.Output) → output.now ≡ kept_output o → text.new.items ≡ text.old.items ++ lines.output_line member frame o) }
 {
-    match output {
-        Output::RoleChange { role, term } => {
-            let number = member.number();
-            let word = role_word(*role);
-            writeln!(text, "role {number} {word} {term}")?;
-            Ok(frame)
-        }
-        Output::Send(message) => {
-            push_message(text, frame, message)?;
-            Ok(frame + 1)
-        }
-    }
-}
-
-/// Adds the line of a message that is sent under that frame number.
-fn push_message(text: &mut String, frame: u64, message: &Message) -> Result<(), OutOfMemory>
-    ensures { OnOk result ((m : messages.Message) → message.now ≡ kept_message m → string_bytes text.new ≡ string_bytes text.old ++ lines.output_line 0 frame (turns.Send m)) }
-{
-    let sender = message.sender.number();
-    let receiver = message.receiver.number();
-    let term = message.term;
-    match message.body {
-        Body::VoteRequest { last_term, last } => {
-            writeln!(
-                text,
-                "send {frame} {sender} {receiver} vote {term} {last_term} {last}"
-            )?
-        }
-        Body::VoteReply { granted } => {
-            let word = granted_word(granted);
-            writeln!(text, "send {frame} {sender} {receiver} voted {term} {word}")?
-        }
+    if sends_peer(output) {
+        line_of(alloc, text, member, frame, output)?;
     }
     Ok(())
 }
 
-fn role_word(role: Role) -> &'static str
-    ensures { (r : nodes.Role) → role ≡ kept_role r → result.now ≡ lines.role_word r }
+/// Whether what it sends, if anything, goes to a member.
+fn sends_peer(output: &Output) -> bool
+    ensures yes { result ≡ true → SendsPeer output.now }
+    ensures no { result ≡ false → (o : told.Output) → output.now ≡ kept_output o → ⊥ }
 {
-    match role {
-        Role::Follower => "follower",
-        Role::Candidate => "candidate",
-        Role::Leader => "leader",
+    match output {
+        Output::Send { message } => matches!(message, Message::Peer { .. }),
+        _ => true,
     }
 }
 
-fn granted_word(granted: bool) -> &'static str
-    ensures { result.now ≡ lines.granted_word granted }
+/// The number of the next frame after an output.
+fn next_frame(frame: u64, output: &Output) -> u64
+    requires { frame + 1 < 2 ^ 64 }
+    ensures next { (o : told.Output) → output.now ≡ kept_output o → result ≡ lines.next_frame frame o }
+    ensures range { result ≤ frame + 1 }
 {
-    if granted { "yes" } else { "no" }
+    match output {
+        Output::Send { .. } => frame + 1,
+        _ => frame,
+    }
 }
 
 fn verdict_word(verdict: Verdict) -> &'static str

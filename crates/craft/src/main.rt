@@ -4,11 +4,9 @@
 mod adapters;
 mod frames;
 mod lines;
-mod message;
 mod node;
 mod replay;
 mod replay_end;
-mod schedule;
 mod status;
 #[cfg(test)]
 mod tests;

@@ -3,6 +3,7 @@ ghost use Rattle.std.specs.Prelude.{◌≡◌, OnOk};
 
 use crate::voters::Voters;
 use craft_base::{MemberId, Shape};
+use peer_frames::Role;
 
 mod say;
 mod terms;
@@ -11,14 +12,7 @@ mod turn;
 mod vote;
 mod vote_reply;
 
-pub use turn::{Input, Output};
-
-#[derive(Clone, Copy, Debug, PartialEq, Eq)]
-pub enum Role {
-    Follower,
-    Candidate,
-    Leader,
-}
+pub use turn::Input;
 
 /// Where a log ends: the term and the index of its last entry, 0 and 0 where it is empty.
 #[derive(Clone, Copy, Debug, PartialEq, Eq)]
@@ -37,6 +31,8 @@ pub struct Node {
     /// For whom it voted in that term.
     vote: Option<MemberId>,
     log_end: LogEnd,
+    /// The index up to which its log is committed: at most 1,000,000.
+    commit: u32,
     role: Role,
     /// How many ticks have come since it heard of a leader or a candidate, at most 100.
     quiet: u64,
@@ -60,6 +56,7 @@ impl Node {
             term: 0,
             vote: None,
             log_end: LogEnd { term: 0, index: 0 },
+            commit: 0,
             role: Role::Follower,
             quiet: 0,
             hint: None,

@@ -7,15 +7,16 @@ ghost use Rattle.world_model.specs.Lines.{event_text};
 ghost use Rattle.world_model.specs.World as model;
 ghost use Rattle.craft.specs.declared.replay_end.ReplayEnd.TheVariants.{SinkFault, NoMemory};
 ghost use Rattle.craft.specs.Replaying.{ReadsEvent, ReadsNone, Ends};
-ghost use Rattle.craft.specs.Worlds.{StandsFor, kept_event};
+ghost use Rattle.craft.specs.Worlds.{Stands, StandsFor};
+ghost use Rattle.schedule_text.specs.Events.{line_of_event};
 
 use crate::lines::push_event;
 use crate::replay_end::ReplayEnd;
-use crate::schedule::event_of;
-use crate::world::{Event, World};
+use crate::world::World;
 use craft_base::Shape;
 use craft_edge::{Sink, Source, write_all};
 use line_input::{LineEnd, read_line};
+use schedule_text::{Line, LineFault};
 use std::alloc::Global;
 
 /// The most lines of a schedule.
@@ -55,7 +56,7 @@ fn run<S: Source, O: Sink>(
     for number in 1..MOST_LINES + 1 {
         match next_event(alloc, shape, number, src, &mut line)? {
             None => return Ok(ReplayEnd::End),
-            Some(event) => print_event(alloc, number, &event, &mut world, out)?,
+            Some(asked) => print_event(alloc, number, &asked, &mut world, out)?,
         }
     }
     match past_the_last(src, &mut line) {
@@ -71,7 +72,7 @@ fn next_event<S: Source>(
     number: u64,
     src: &mut S,
     line: &mut Vec<u8>,
-) -> Result<Option<Event>, ReplayEnd>
+) -> Result<Option<Line>, ReplayEnd>
     requires { number ≤ 1_000_000 }
     ensures read { IfOk result (ReadsEvent shape.now number (S.left src.old) (S.left src.new)) }
     ensures failed { IfErr result (ReadsNone shape.now number (S.left src.old) (S.faults src.old) (S.faults src.new)) }
@@ -81,9 +82,10 @@ fn next_event<S: Source>(
     match read_line(src, line)? {
         LineEnd::End => Ok(None),
         LineEnd::Broken => Err(ReplayEnd::Bad { line: number }),
-        LineEnd::LineFeed => match event_of(alloc, shape, line)? {
-            Some(event) => Ok(Some(event)),
-            None => Err(ReplayEnd::Bad { line: number }),
+        LineEnd::LineFeed => match schedule_text::read_line(alloc, shape, line) {
+            Ok(asked) => Ok(Some(asked)),
+            Err(LineFault::Bad) => Err(ReplayEnd::Bad { line: number }),
+            Err(LineFault::OutOfMemory) => Err(ReplayEnd::NoMemory),
         },
     }
 }
@@ -107,21 +109,22 @@ fn past_the_last<S: Source>(src: &mut S, line: &mut Vec<u8>) -> Result<(), Repla
 fn print_event<O: Sink>(
     alloc: Global,
     number: u64,
-    event: &Event,
+    asked: &Line,
     world: &mut World,
     out: &mut O,
 ) -> Result<(), ReplayEnd>
-    ensures world { OnOk result ((e : model.Event) (w : model.World) → event.now ≡ kept_event e → StandsFor world.old w → StandsFor world.new (model.step w e).world) }
-    ensures text { OnOk result ((e : model.Event) (w : model.World) → event.now ≡ kept_event e → StandsFor world.old w → Appends (O.taken out.old) (O.taken out.new) (event_text number w (model.step w e))) }
+    requires { Stands world.old }
+    ensures world { OnOk result ((e : model.Event) (w : model.World) → asked.now ≡ line_of_event e → StandsFor world.old w → StandsFor world.new (model.step w e).world) }
+    ensures text { OnOk result ((e : model.Event) (w : model.World) → asked.now ≡ line_of_event e → StandsFor world.old w → Appends (O.taken out.old) (O.taken out.new) (event_text number w (model.step w e))) }
     ensures failed { IfErr result (λ e. (e ≡ NoMemory) ⊎ ((e ≡ SinkFault) × Rose (O.faults out.old) (O.faults out.new))) }
     ensures told { is_some (O.taken out.new) ≡ is_some (O.taken out.old) }
     ensures later { O.faults out.old ≤ O.faults out.new }
 {
     let frame = world.frames() as u64 + 1;
-    let happened = world.step(alloc, event)?;
-    let mut text = String::new(alloc);
-    push_event(&mut text, number, frame, &happened)?;
-    match write_all(out, text.as_bytes()) {
+    let happened = world.step(alloc, asked)?;
+    let mut text = Vec::new(alloc);
+    push_event(alloc, &mut text, number, frame, &happened)?;
+    match write_all(out, &text) {
         Ok(()) => Ok(()),
         Err(_) => Err(ReplayEnd::SinkFault),
     }

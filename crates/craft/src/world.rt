@@ -2,22 +2,16 @@
 ghost use Rattle.std.specs.Prelude.{◌≡◌, ◌<◌, ◌++◌, ◌∷◌, [], IfOk, OnOk};
 ghost use Rattle.craft_base.specs.Parameters.{members_of};
 ghost use Rattle.world_model.specs.Nodes.{started, born};
-ghost use Rattle.craft.specs.Kept.{kept_node};
+ghost use Rattle.world_model.specs.Spelling.{IsGroup};
+ghost use Rattle.entry_frames.specs.Messages as plain;
+ghost use Rattle.craft.specs.Kept.{kept_node, kept_message};
 
-use crate::frames::keep_messages;
-use crate::message::Message;
-use crate::node::{Input, Node, Output};
-use craft_base::{MemberId, OutOfMemory, Shape};
+use crate::frames::{frame_in, keep_messages};
+use crate::node::{Input, Node};
+use craft_base::{Blob, MemberId, OutOfMemory, Shape};
+use peer_frames::{Message, Output};
+use schedule_text::{Inner, Line};
 use std::alloc::Global;
-
-/// One line of a schedule.
-#[derive(Clone, Copy, Debug, PartialEq, Eq)]
-pub enum Event {
-    /// Time passes at a member.
-    Tick { member: MemberId, word: u64 },
-    /// A frame is delivered to its receiver. Frames are numbered from 1, in the order in which they were sent.
-    Take { frame: u64 },
-}
 
 /// Whether an event was carried out.
 #[derive(Clone, Copy, Debug, PartialEq, Eq)]
@@ -36,16 +30,20 @@ pub struct Happened {
     pub outputs: Vec<Output>,
 }
 
-/// The members of a group, and every message that they ever sent. A frame that is never taken is lost.
+/// The members of a group, and every message that they ever sent, as the bytes of its frame. A frame that is never taken
+/// is lost.
 #[derive(Drop)]
 pub struct World {
+    shape: Shape,
     nodes: Vec<Node>,
-    sent: Vec<Message>,
+    sent: Vec<Blob>,
 }
 
 impl World {
-    ghost use Rattle.craft.specs.Worlds.{StandsFor, TellsOf, kept_event};
+    ghost use Rattle.craft.specs.Worlds.{Stands, StandsFor, TellsOf, TurnsInRange, kept_frame};
     ghost use Rattle.craft.specs.Turns.{kept_input};
+    ghost use Rattle.world_model.specs.Ranges.{InRange};
+    ghost use Rattle.schedule_text.specs.Events.{line_of_event};
     ghost use Rattle.world_model.specs.World as model;
     ghost use Rattle.world_model.specs.Turn as turns;
     ghost use Rattle.std.specs.Prelude.{ℕ, ◌-◌, ◌^◌, length, slice_get};
@@ -54,11 +52,13 @@ impl World {
     pub fn new(alloc: Global, shape: &Shape) -> Result<World, OutOfMemory>
         ensures { IfOk result (λ world. StandsFor world (model.start shape.now)) }
     {
+        is_group(shape);
         let mut nodes = Vec::new(alloc);
         for number in 0..shape.members() {
             add_member(shape, number, &mut nodes)?;
         }
         Ok(World {
+            shape: *shape,
             nodes,
             sent: Vec::new(alloc),
         })
@@ -72,41 +72,57 @@ impl World {
         self.sent.len()
     }
 
-    /// Carries out one event. After an error the world is of no more use.
-    pub fn step(&mut self, alloc: Global, event: &Event) -> Result<Happened, OutOfMemory>
-        ensures world { OnOk result ((e : model.Event) (w : model.World) → event.now ≡ kept_event e → StandsFor self.old w → StandsFor self.new (model.step w e).world) }
-        ensures told { IfOk result (λ happened. (e : model.Event) (w : model.World) → event.now ≡ kept_event e → StandsFor self.old w → TellsOf happened (model.step w e)) }
+    /// Carries out the event of one line. After an error the world is of no more use.
+    pub fn step(&mut self, alloc: Global, line: &Line) -> Result<Happened, OutOfMemory>
+        requires { Stands self.old }
+        ensures world { OnOk result ((e : model.Event) (w : model.World) → line.now ≡ line_of_event e → StandsFor self.old w → StandsFor self.new (model.step w e).world) }
+        ensures told { IfOk result (λ happened. (e : model.Event) (w : model.World) → line.now ≡ line_of_event e → StandsFor self.old w → TellsOf happened (model.step w e)) }
     {
-        match event {
-            Event::Tick { member, word } => self.turn_at(
-                alloc,
-                *member,
-                &Input::Tick { word: *word },
-            ),
-            Event::Take { frame } => self.deliver(alloc, *frame),
+        match line {
+            Line::Do(Inner::Tick { member, word }) => self.tick(alloc, *member, *word),
+            Line::Do(Inner::Take { frame }) => self.deliver(alloc, *frame),
         }
+    }
+
+    /// Lets time pass at a member.
+    fn tick(&mut self, alloc: Global, member: MemberId, word: u64) -> Result<Happened, OutOfMemory>
+        requires { Stands self.old }
+        ensures world { OnOk result ((w : model.World) → StandsFor self.old w → StandsFor self.new (model.step w (model.TickAt member word)).world) }
+        ensures told { IfOk result (λ happened. (w : model.World) → StandsFor self.old w → TellsOf happened (model.step w (model.TickAt member word))) }
+    {
+        let happened = self.turn_at(alloc, member, &Input::Tick { word })?;
+        Ok(happened)
     }
 
     /// Delivers a frame to its receiver, if it was sent.
     fn deliver(&mut self, alloc: Global, frame: u64) -> Result<Happened, OutOfMemory>
+        requires { Stands self.old }
         ensures world { OnOk result ((w : model.World) → StandsFor self.old w → StandsFor self.new (model.step w (model.Take frame)).world) }
         ensures told { IfOk result (λ happened. (w : model.World) → StandsFor self.old w → TellsOf happened (model.step w (model.Take frame))) }
     {
-        match self.frame(frame) {
+        let found = self.frame(alloc, frame)?;
+        match found {
             None => Ok(nothing(alloc, Verdict::NoFrame)),
             Some(message) => {
-                let happened = self.turn_at(alloc, message.receiver, &Input::Deliver(message))?;
+                let happened = self.turn_at(
+                    alloc,
+                    receiver_of(&message),
+                    &Input::Deliver(message),
+                )?;
                 Ok(happened)
             }
         }
     }
 
-    /// The frame of that number, if it was sent.
-    fn frame(&self, number: u64) -> Option<Message>
-        ensures { result ≡ slice_get self.now.sent.items (number - 1) }
+    /// The message in the frame of that number, if it was sent.
+    fn frame(&self, alloc: Global, number: u64) -> Result<Option<Message>, OutOfMemory>
+        ensures { IfOk result (λ found. (w : model.World) → StandsFor self.now w → found ≡ kept_frame (slice_get w.sent (number - 1))) }
     {
         let place = number.saturating_sub(1) as usize;
-        self.sent.get(place).copied()
+        match self.sent.get(place) {
+            Some(frame) => frame_in(alloc, &self.shape, frame.as_bytes()),
+            None => Ok(None),
+        }
     }
 
     /// One turn of a member. What it sends can be delivered from then on.
@@ -116,7 +132,8 @@ impl World {
         member: MemberId,
         input: &Input,
     ) -> Result<Happened, OutOfMemory>
-        ensures world { OnOk result ((i : turns.Input) (w : model.World) → input.now ≡ kept_input i → StandsFor self.old w → StandsFor self.new (model.turn_at w member i).world) }
+        requires { TurnsInRange self.old member input.now }
+        ensures world { OnOk result ((i : turns.Input) (w : model.World) → input.now ≡ kept_input i → StandsFor self.old w → InRange self.old.shape (model.turn_at w member i).world → StandsFor self.new (model.turn_at w member i).world) }
         ensures told { IfOk result (λ happened. (i : turns.Input) (w : model.World) → input.now ≡ kept_input i → StandsFor self.old w → TellsOf happened (model.turn_at w member i)) }
     {
         let place = usize::from(member.number());
@@ -124,7 +141,7 @@ impl World {
             return Ok(nothing(alloc, Verdict::Done));
         }
         let outputs = self.nodes[place].turn(alloc, input)?;
-        keep_messages(&mut self.sent, &outputs)?;
+        keep_messages(alloc, &self.shape, &mut self.sent, &outputs)?;
         Ok(Happened {
             verdict: Verdict::Done,
             member,
@@ -144,6 +161,14 @@ fn add_member(shape: &Shape, number: u8, nodes: &mut Vec<Node>) -> Result<(), Ou
     Ok(())
 }
 
+/// A shape's numbers are those of a group.
+fn is_group(shape: &Shape)
+    ensures { IsGroup shape.now }
+{
+    shape.faults();
+    shape.need();
+}
+
 /// Nobody's turn came.
 fn nothing(alloc: Global, verdict: Verdict) -> Happened
     ensures verdict { result.verdict ≡ verdict }
@@ -154,5 +179,15 @@ fn nothing(alloc: Global, verdict: Verdict) -> Happened
         verdict,
         member: MemberId::default(),
         outputs: Vec::new(alloc),
+    }
+}
+
+/// To whom a message goes.
+fn receiver_of(message: &Message) -> MemberId
+    ensures { (m : plain.Message) → message.now ≡ kept_message m → result ≡ m.receiver }
+{
+    match message {
+        Message::Peer { to, .. } | Message::Request { to, .. } => *to,
+        Message::Answered { from, .. } => *from,
     }
 }

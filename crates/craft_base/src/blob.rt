@@ -28,6 +28,13 @@ impl Blob {
         })
     }
 
+    /// These bytes, which it takes over.
+    pub fn of(bytes: Vec<u8>) -> Blob
+        ensures { result ≡ bytes.items }
+    {
+        Blob { bytes }
+    }
+
     /// The bytes.
     pub fn as_bytes(&self) -> &[u8]
         ensures { result.now ≡ self.now }

@@ -55,5 +55,8 @@ fn parts_are_as_short_as_they_can_be(rt: HostRuntime) {
 fn a_blob_is_its_bytes(rt: HostRuntime) -> Result<(), Fail> {
     let blob = Blob::copy_of(rt.alloc(), &[1, 2])?;
     assert_eq!(rt; blob.as_bytes(), [1, 2].as_slice());
+    let mut bytes = Vec::new(rt.alloc());
+    bytes.push(3)?;
+    assert_eq!(rt; Blob::of(bytes).as_bytes(), [3].as_slice());
     Ok(())
 }

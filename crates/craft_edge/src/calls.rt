@@ -4,7 +4,7 @@ use std::marker::Model;
 /// The calls that a device in memory has had, those that are to fail, and the count of those that failed.
 /// The counts stand still at `u64::MAX`.
 #[derive(Drop)]
-pub(crate) struct Calls {
+pub struct Calls {
     fail: Vec<u64>,
     made: u64,
     faults: u64,
@@ -23,7 +23,7 @@ impl Calls {
     ghost use Rattle.craft_edge.specs.Calls.{after_call, next_fails, counted};
 
     /// No call so far; those with the numbers in `fail` are to fail, counted from 1.
-    pub(crate) fn new(fail: Vec<u64>) -> Self
+    pub fn new(fail: Vec<u64>) -> Self
         ensures { result ≡ record { fail = fail.items; made = 0; faults = 0 } }
     {
         Calls {
@@ -34,7 +34,7 @@ impl Calls {
     }
 
     /// Counts one call more and says whether it is listed to fail; if so, counts the fault too.
-    pub(crate) fn next_fails(&mut self) -> bool
+    pub fn next_fails(&mut self) -> bool
         ensures listed { result ≡ next_fails self.old }
         ensures counted { self.new ≡ after_call self.old (next_fails self.old) }
         ensures later { self.old.faults ≤ self.new.faults }
@@ -48,7 +48,7 @@ impl Calls {
     }
 
     /// Counts a fault of the last call that isn't listed.
-    pub(crate) fn count_fault(&mut self)
+    pub fn count_fault(&mut self)
         ensures counted { self.new ≡ record self.old { faults = counted self.old.faults } }
         ensures later { self.old.faults ≤ self.new.faults }
     {

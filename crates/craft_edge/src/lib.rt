@@ -18,6 +18,7 @@ mod source;
 #[cfg(test)]
 mod tests;
 
+pub use calls::Calls;
 pub use clock::Clock;
 pub use disk::{Disk, Stopping};
 pub use failed::Failed;

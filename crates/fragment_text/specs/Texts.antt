@@ -2,15 +2,9 @@
 use Rattle.std.specs.Prelude.{ℕ, List, [], ◌∷◌, ◌++◌, length, map, codes}
 use Rattle.std.specs.List.{concat, range_with_len}
 use Rattle.std.specs.Fmt.{decimal}
-use Rattle.hex.specs.Hex.{encode_lower}
 use Rattle.craft_base.specs.Parameters.{Parameters, members_of}
 use Rattle.rs_code.specs.Fragments.{fragment}
-use Rattle.world_model.specs.Lines.{line_of}
-
--- the bytes in lower case hexadecimal digits, and `-` for none
-abbrev pub part_digits : List ℕ → List ℕ
-part_digits [] = codes "-"
-part_digits (byte ∷ bytes) = encode_lower (byte ∷ bytes)
+use Rattle.world_model.specs.Lines.{line_of, bytes_word}
 
 -- the first line: the value's length
 abbrev pub value_line : ℕ → List ℕ
@@ -18,7 +12,7 @@ value_line count = line_of (codes "value" ∷ decimal count ∷ [])
 
 -- the line of a member's fragment
 abbrev pub part_line : ℕ → List ℕ → List ℕ
-part_line member bytes = line_of (codes "part" ∷ decimal member ∷ part_digits bytes ∷ [])
+part_line member bytes = line_of (codes "part" ∷ decimal member ∷ bytes_word bytes ∷ [])
 
 -- the line of a member's fragment of a value
 abbrev pub fragment_line : Parameters → List ℕ → ℕ → List ℕ

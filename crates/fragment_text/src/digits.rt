@@ -1,22 +1,14 @@
 //! The words of a line of the text.
-ghost use Rattle.std.specs.Prelude.{◌≡◌, ◌∷◌, [], map, length, IfOk};
+ghost use Rattle.std.specs.Prelude.{◌≡◌, ◌∷◌, [], map, length};
 ghost use Rattle.std.specs.Char.{is_ascii_uppercase};
 ghost use Rattle.std.specs.List.{list_any};
-ghost use Rattle.fragment_text.specs.Said.{bytes_of, length_of_words, words_of};
+ghost use Rattle.fragment_text.specs.Said.{bytes_of, length_of_words};
 ghost use Rattle.fragment_text.specs.Kept.{Decodes};
 
 use line_input::number;
-use std::alloc::{AllocError, Global};
 
 /// The most bytes of a value.
 pub const LONGEST_VALUE: usize = 32_768;
-
-/// The words of a line, between single blanks.
-pub fn words(alloc: Global, line: &[u8]) -> Result<Vec<&[u8]>, AllocError>
-    ensures { IfOk result (λ words. map (λ word. word.now) words.items ≡ words_of line.now) }
-{
-    line.split(|byte| *byte == b' ').collect(alloc)
-}
 
 /// The length that the words of the value's line tell.
 pub fn value_length(words: &[&[u8]]) -> Option<usize>

@@ -6,12 +6,12 @@ ghost use Rattle.fragment_text.specs.Joining.{JoinEnds, ReadsNoParts};
 ghost use Rattle.fragment_text.specs.Kept.{StandsFor, Takes, ReadsLength, ReadsPart, ReadsNoPart, ReadsParts};
 ghost use Rattle.fragment_text.specs.declared.join_end.JoinEnd.TheVariants.{End};
 
-use crate::digits::{value_length, words};
+use crate::digits::value_length;
 use crate::join_end::JoinEnd;
 use crate::parts::Parts;
 use craft_base::Shape;
 use craft_edge::{Sink, Source, write_all};
-use line_input::{LineEnd, read_line};
+use line_input::{LineEnd, read_line, words};
 use std::alloc::{AllocError, Global};
 
 /// Reads the lines of parts to the end of the source, and writes the value that the first k of them give, for a group

@@ -1,8 +1,9 @@
 //! The text of a value and its fragments.
 ghost use Rattle.std.specs.Prelude.{◌≡◌, ◌≤◌, ◌++◌, IfOk, OnOk, string_bytes};
-ghost use Rattle.fragment_text.specs.Texts.{part_digits, part_line, split_text};
+ghost use Rattle.fragment_text.specs.Texts.{part_line, split_text};
 
 use craft_base::{OutOfMemory, Shape, part_len};
+use line_input::digits_of;
 use rs_code::part_into;
 use std::alloc::Global;
 use std::fmt::Write;
@@ -31,15 +32,4 @@ fn push_part(alloc: Global, text: &mut String, member: u8, part: &[u8]) -> Resul
     let digits = digits_of(alloc, part)?;
     writeln!(text, "part {member} {digits}")?;
     Ok(())
-}
-
-/// The bytes in lower case hexadecimal digits, and `-` for none.
-fn digits_of(alloc: Global, bytes: &[u8]) -> Result<String, OutOfMemory>
-    ensures { IfOk result (λ digits. string_bytes digits ≡ part_digits bytes.now) }
-{
-    if bytes.is_empty() {
-        Ok(format!(in alloc; "-")?)
-    } else {
-        Ok(hex::encode(alloc, bytes)?)
-    }
 }

@@ -51,3 +51,21 @@ fn a_number_is_decimal(rt: HostRuntime) {
         assert_eq!(rt; number(word), want, "at {word:?}");
     }
 }
+
+#[test]
+fn words_stand_between_blanks(rt: HostRuntime) -> Result<(), Fail> {
+    let words = words(rt.alloc(), b"a  bc ")?;
+    let want: [&[u8]; 4] = [b"a", b"", b"bc", b""];
+    assert_eq!(rt; words.as_slice(), want.as_slice());
+    Ok(())
+}
+
+#[test]
+fn bytes_are_a_word(rt: HostRuntime) -> Result<(), Fail> {
+    let table: [(&[u8], &str); 2] = [(&[0x00, 0x80, 0xaf], "0080af"), (b"", "-")];
+    for (bytes, want) in table {
+        let word = digits_of(rt.alloc(), bytes)?;
+        assert_eq!(rt; word.as_str(), want);
+    }
+    Ok(())
+}

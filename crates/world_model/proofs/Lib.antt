@@ -1,4 +1,9 @@
 mod Examples
+mod OutputExamples
+pub mod Frames
+pub mod Places
+pub mod Turns
+pub mod Ranges
 pub mod Inputs
 pub mod Numerals
 pub mod Runs

@@ -1,5 +1,4 @@
 pub mod Logs
-pub mod Messages
 pub mod Nodes
 pub mod Knowledge
 pub mod Rules
@@ -11,3 +10,4 @@ pub mod Safety
 pub mod Schedule
 pub mod Words
 pub mod Spelling
+pub mod Ranges

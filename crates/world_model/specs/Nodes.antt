@@ -2,11 +2,7 @@
 use Rattle.std.specs.Prelude.{ℕ, List, [], Bool, Option, None}
 use Rattle.craft_base.specs.Parameters.{Parameters}
 use Rattle.craft_base.specs.declared.command.Entry.{Entry}
-
-pub data Role : Type 0 where
-  Follower : Role
-  Candidate : Role
-  Leader : Role
+use Rattle.entry_frames.specs.Outputs.{Role, Follower}
 
 -- what outlives a crash, and nothing else does
 pub record Durable : Type 0 where

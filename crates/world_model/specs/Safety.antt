@@ -1,7 +1,8 @@
 -- What holds of every run.
 use Rattle.std.specs.Prelude.{◌≡◌, ℕ, List, take, Option, None, Some, slice_get}
 use Rattle.craft_base.specs.Parameters.{Parameters}
-use Rattle.world_model.specs.Nodes.{Node, Leader}
+use Rattle.entry_frames.specs.Outputs.{Leader}
+use Rattle.world_model.specs.Nodes.{Node}
 use Rattle.world_model.specs.World.{Event, run}
 
 -- the node leads that term

@@ -1,8 +1,9 @@
 -- One turn of a node: the rule that an event calls for, and its outputs in their order.
 use Rattle.std.specs.Prelude.{ℕ, List, [], ◌∷◌, ◌++◌, map, Bool, true, false, ◌&&◌, ◌==◌, if◌then◌else◌, nat_lt}
-use Rattle.world_model.specs.Messages.{Body, VoteRequest, VoteReply, Message}
-use Rattle.world_model.specs.Nodes.{Role, Follower, Candidate, Leader, Node}
-use Rattle.world_model.specs.Rules.Acts.{Act}
+use Rattle.entry_frames.specs.Messages.{Body, VoteRequest, VoteReply, AppendEntries, Matched, Refused, Ask, Answer, Message}
+use Rattle.entry_frames.specs.Outputs.{Role, Follower, Candidate, Preparing, Leader, Output, RoleChange, Send}
+use Rattle.world_model.specs.Nodes.{Node}
+use Rattle.world_model.specs.Rules.Acts.{Act, stays}
 use Rattle.world_model.specs.Rules.Terms.{caught_up, refuses_stale}
 use Rattle.world_model.specs.Rules.Tick.{ticks}
 use Rattle.world_model.specs.Rules.Vote.{considers_vote}
@@ -15,16 +16,16 @@ pub data Input : Type 0 where
   -- a message comes
   Deliver : Message → Input
 
--- what a node tells
-pub data Output : Type 0 where
-  -- its role and term, where they changed
-  RoleChange : Role → (term : ℕ) → Output
-  Send : Message → Output
-
 -- a message of the node's own term, by what it says
 abbrev pub takes_body : Node → ℕ → Body → Act
 takes_body n sender (VoteRequest last_term last) = considers_vote n sender last_term last
 takes_body n sender (VoteReply granted) = counts_reply n sender granted
+-- the rules of these aren't built yet
+takes_body n sender (AppendEntries prev prev_term commit entries) = stays n
+takes_body n sender (Matched prev count mask) = stays n
+takes_body n sender (Refused next) = stays n
+takes_body n sender (Ask start) = stays n
+takes_body n sender (Answer start last slots) = stays n
 
 -- a message, by its term and then by what it says
 abbrev pub takes : Message → Node → Act
@@ -37,6 +38,7 @@ acts (Deliver m) n = takes m n
 abbrev pub same_role : Role → Role → Bool
 same_role Follower Follower = true
 same_role Candidate Candidate = true
+same_role Preparing Preparing = true
 same_role Leader Leader = true
 same_role _ _ = false
 

@@ -1,10 +1,11 @@
 -- A whole group and its network, and what an event of a schedule makes of them.
 use Rattle.std.specs.Prelude.{ℕ, ◌-◌, List, [], ◌∷◌, ◌++◌, map, Option, None, Some, slice_get, slice_set}
 use Rattle.craft_base.specs.Parameters.{Parameters}
+use Rattle.entry_frames.specs.Messages.{Message}
+use Rattle.entry_frames.specs.Outputs.{Output, Send}
 use Rattle.world_model.specs.Knowledge.{members}
-use Rattle.world_model.specs.Messages.{Message}
 use Rattle.world_model.specs.Nodes.{Node, started, born}
-use Rattle.world_model.specs.Turn.{Input, Output, RoleChange, Send, Tick, Deliver, Turned, turn}
+use Rattle.world_model.specs.Turn.{Input, Tick, Deliver, Turned, turn}
 
 -- one line of a schedule
 pub data Event : Type 0 where
@@ -35,10 +36,11 @@ pub record Happened : Type 0 where
   pub member : ℕ
   pub outputs : List Output
 
+-- the messages among some outputs
 abbrev pub sent_of : List Output → List Message
 sent_of [] = []
-sent_of (RoleChange role term ∷ outputs) = sent_of outputs
 sent_of (Send m ∷ outputs) = m ∷ sent_of outputs
+sent_of (_ ∷ outputs) = sent_of outputs
 
 -- a member's turn takes the member's place, and what it sent can be delivered from then on
 abbrev pub after_turn : World → ℕ → Turned → Happened

@@ -7,6 +7,7 @@ ghost use Rattle.std.specs.Prelude.{◌≡◌, ℕ, ◌<◌, ◌^◌, ◌↔◌,
 ghost use Rattle.std.specs.Fmt.{decimal};
 ghost use Rattle.craft_base.specs.Parameters.{Parameters};
 ghost use Rattle.world_model.specs.Numbers.{number_of};
+ghost use Rattle.world_model.specs.Ranges.{EveryRunInRange};
 ghost use Rattle.world_model.specs.Schedule.{event_of, reading};
 ghost use Rattle.world_model.specs.Spelling.{IsAllGood, IsCommand, IsEventOf, IsFirstBad, IsNumber, SpellsCommand, SpellsEvent};
 ghost use Rattle.world_model.specs.Words.{Command, plan};
@@ -51,4 +52,10 @@ pub fn words_are_spelled_once()
     ensures once { (words others : List (List ℕ)) (command : Command) →
         SpellsCommand words command → SpellsCommand others command → words ≡ others }
     ensures each { (command : Command) → IsCommand command → (words : List (List ℕ)) × SpellsCommand words command }
+{}
+
+/// Each message that is sent in a run of a group can be written as a frame of that group's, whatever the events: no term
+/// passes 2^62, no index passes 1,000,000, and messages go from one member to another.
+pub fn every_message_has_a_spelling()
+    ensures { EveryRunInRange }
 {}

@@ -1,13 +1,13 @@
 -- Terms: a member that catches up with a higher term makes the move raise; one that refuses a lower term makes none.
-use Rattle.std.proofs.Common.{◌≡◌, ◌≢◌, ℕ, ◌<◌, nat_lt, false, None, sym, ◌∙◌, arith, refl}
+use Rattle.std.proofs.Common.{◌≢◌, ℕ, ◌<◌, nat_lt, false, None, sym, ◌∙◌, arith}
 use Rattle.std.specs.List.{All}
-use Rattle.std.proofs.lemmas.Bool.{cond_both, ltb-true, ltb-false, true≢false}
+use Rattle.std.proofs.lemmas.Bool.{cond_both, ltb-true, true≢false}
 use Rattle.std.proofs.lemmas.List.Elements.{All-nil}
 use Rattle.craft_base.specs.Parameters.{Parameters}
-use Rattle.world_model.specs.Messages.{Body, VoteRequest, VoteReply, Message}
+use Rattle.entry_frames.specs.Messages.{Body, VoteRequest, VoteReply, AppendEntries, Matched, Refused, Ask, Answer, Message}
 use Rattle.world_model.specs.Nodes.{Node}
 use Rattle.world_model.specs.Rules.Acts.{says, stays}
-use Rattle.world_model.specs.Rules.Terms.{in_term, caught_up, stale_replies, refuses_stale}
+use Rattle.world_model.specs.Rules.Terms.{in_term, caught_up, refusal, stale_replies, refuses_stale}
 use Rattle.protocol.specs.History as protocol
 use Rattle.protocol.specs.Moves.{Raise, after}
 use Rattle.protocol.proofs.Counting.{put_same}
@@ -40,18 +40,22 @@ module _ {shape : Parameters} {g : protocol.History} {place : ℕ} {n : Node} (a
       (λ higher. raises_bridged m.term (ltb-true _ _ higher)) (λ same. unmoved_stays a)
 
   -- a vote that isn't granted says nothing
-  pub refusal_agrees : (sender : ℕ) → sender ≢ place → MessageAgrees g (says n (VoteReply false) sender)
-  refusal_agrees sender apart =
+  pub refused_vote_agrees : (sender : ℕ) → sender ≢ place → MessageAgrees g (says n (VoteReply false) sender)
+  refused_vote_agrees sender apart =
       record { apart = λ e. apart (sym e ∙ a.me); body = λ granted. absurd (true≢false (sym granted)) }
 
+  -- and nothing is said of where a leader may go on
+  refusal_agrees : (sender : ℕ) → sender ≢ place → MessageAgrees g (says n (refusal n) sender)
+  refusal_agrees sender apart = record { apart = λ e. apart (sym e ∙ a.me); body = tt }
+
   stale_replies_agree : (sender : ℕ) (body : Body) → sender ≢ place → All (MessageAgrees g) (stale_replies n sender body)
-  stale_replies_agree sender (VoteRequest last_of last) apart = sends_one (refusal_agrees sender apart)
+  stale_replies_agree sender (VoteRequest last_of last) apart = sends_one (refused_vote_agrees sender apart)
   stale_replies_agree sender (VoteReply granted) apart = sends_none g
+  stale_replies_agree sender (AppendEntries prev prev_term commit entries) apart = sends_one (refusal_agrees sender apart)
+  stale_replies_agree sender (Matched prev count mask) apart = sends_none g
+  stale_replies_agree sender (Refused next) apart = sends_none g
+  stale_replies_agree sender (Ask start) apart = sends_one (refusal_agrees sender apart)
+  stale_replies_agree sender (Answer start last slots) apart = sends_none g
 
   pub refuses_stale_bridged : (m : Message) → m.sender ≢ place → ActBridged shape g place (refuses_stale n m)
   refuses_stale_bridged m apart = unmoved (refuses_stale n m) a (stale_replies_agree m.sender m.body apart)
-
-pub caught_up_term : (n : Node) (m : Message) → nat_lt m.term n.durable.term ≡ false → (caught_up n m).durable.term ≡ m.term
-caught_up_term n m e =
-    cond_both (nat_lt n.durable.term m.term) (in_term m.term n) n (λ now. now.durable.term ≡ m.term)
-    (λ higher. refl) (λ same. omega (arith, ltb-false _ _ e, ltb-false _ _ same))

@@ -4,8 +4,9 @@ use Rattle.std.proofs.lemmas.Bool.{cond_both}
 use Rattle.std.proofs.lemmas.List.Elements.{All-nil, All-cons}
 use Rattle.craft_base.specs.Parameters.{Parameters}
 use Rattle.world_model.specs.Logs as node
-use Rattle.world_model.specs.Messages.{VoteRequest}
-use Rattle.world_model.specs.Nodes.{Role, Follower, Candidate, Leader, Beat, Node}
+use Rattle.entry_frames.specs.Messages.{VoteRequest}
+use Rattle.entry_frames.specs.Outputs.{Role, Follower, Candidate, Preparing, Leader}
+use Rattle.world_model.specs.Nodes.{Beat, Node}
 use Rattle.world_model.specs.Rules.Acts.{stays}
 use Rattle.world_model.specs.Rules.Tick.{is_due, waits, as_candidate, asks_for_votes, waits_or_stands, beats, ticks_as, ticks}
 use Rattle.protocol.specs.History as protocol
@@ -68,6 +69,7 @@ ticks_as_bridged :
     ActBridged shape g place (ticks_as role word n)
 ticks_as_bridged Follower word a = waits_or_stands_bridged (waits_agrees a) word
 ticks_as_bridged Candidate word a = waits_or_stands_bridged (waits_agrees a) word
+ticks_as_bridged Preparing word a = unmoved_stays (beats_agrees a)
 ticks_as_bridged Leader word a = unmoved_stays (beats_agrees a)
 
 pub ticks_bridged :

@@ -2,7 +2,7 @@
 use Rattle.std.proofs.Common.{◌≡◌, ◌≢◌, ℕ, ◌⊎◌, true, false, Option, None, Some, length, [], ◌∷◌, refl, sym, ap, ◌∙◌, inl, inr}
 use Rattle.std.proofs.lemmas.Bool.{cond_both, and_parts, eqb-true}
 use Rattle.craft_base.specs.Parameters.{Parameters}
-use Rattle.world_model.specs.Messages.{VoteReply}
+use Rattle.entry_frames.specs.Messages.{VoteReply}
 use Rattle.world_model.specs.Nodes.{Node}
 use Rattle.world_model.specs.Rules.Acts.{says}
 use Rattle.world_model.specs.Rules.Vote.{is_free_for, with_vote, grants, considers_vote}
@@ -16,7 +16,7 @@ use Rattle.bridge.specs.Bridges.{ActBridged, OwnMoves}
 use Rattle.bridge.proofs.Facts.{all_heard_stays}
 use Rattle.bridge.proofs.Steps.{moved, own_move, reached_grows, sends_one, unmoved}
 use Rattle.bridge.proofs.Views.{length_seen, last_term_seen, up_to_date}
-use Rattle.bridge.proofs.Rules.Terms.{refusal_agrees}
+use Rattle.bridge.proofs.Rules.Terms.{refused_vote_agrees}
 
 free_for : (candidate : ℕ) (vote : Option ℕ) → is_free_for candidate vote ≡ true → (vote ≡ None) ⊎ (vote ≡ Some candidate)
 free_for candidate None free = inl refl
@@ -73,4 +73,4 @@ module _
       (record { node = n; sends = says n (VoteReply false) candidate ∷ [] })
       (ActBridged shape g place)
       (λ granted. casts_bridged (granted_allowed last_of last told granted))
-      (λ refused. unmoved _ a (sends_one (refusal_agrees a candidate apart)))
+      (λ refused. unmoved _ a (sends_one (refused_vote_agrees a candidate apart)))

@@ -5,7 +5,8 @@ use Rattle.std.proofs.lemmas.Bool.{cond_both, and_parts, or_cases, eqb-true, leb
 use Rattle.std.proofs.lemmas.List.Elements.{All-cons, All-head, All-tail}
 use Rattle.craft_base.specs.Parameters.{Parameters, members_of, majority_of}
 use Rattle.world_model.specs.Knowledge as known
-use Rattle.world_model.specs.Nodes.{Role, Follower, Candidate, Leader, Heard, Beat, Voted, Node}
+use Rattle.entry_frames.specs.Outputs.{Role, Follower, Candidate, Preparing, Leader}
+use Rattle.world_model.specs.Nodes.{Heard, Beat, Voted, Node}
 use Rattle.world_model.specs.Rules.Acts.{stays}
 use Rattle.world_model.specs.Rules.VoteReply.{hears_vote, has_won, as_leader, leads_if_won, counts_reply_as, counts_reply}
 use Rattle.protocol.specs.Counting.{put}
@@ -113,6 +114,7 @@ counts_reply_as_bridged :
     n.volatile.role ≡ role → ActBridged shape g place (counts_reply_as role n sender granted)
 counts_reply_as_bridged Follower sender granted reached a told e = unmoved_stays a
 counts_reply_as_bridged Candidate sender granted reached a told e = leads_if_won_bridged reached (hears_agrees sender granted a told) e
+counts_reply_as_bridged Preparing sender granted reached a told e = unmoved_stays (hears_agrees sender granted a told)
 counts_reply_as_bridged Leader sender granted reached a told e = unmoved_stays (hears_agrees sender granted a told)
 
 pub counts_reply_bridged :

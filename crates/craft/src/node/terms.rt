@@ -1,15 +1,17 @@
 //! Terms: a message of a higher term makes the node follow that term first; one of a lower term is refused or dropped.
-ghost use Rattle.std.specs.Prelude.{OnOk};
+ghost use Rattle.std.specs.Prelude.{OnOk, ◌+◌};
+ghost use Rattle.peer_frames.specs.declared.message.Peer.TheVariants.{Refused};
+ghost use Rattle.craft.specs.Says.{message_from};
 
-use crate::message::{Body, Message};
-use crate::node::{Node, Role};
+use crate::node::Node;
 use crate::voters::Voters;
-use craft_base::OutOfMemory;
+use craft_base::{MemberId, OutOfMemory};
+use peer_frames::{Message, Peer, Role};
 
 impl Node {
-    ghost use Rattle.craft.specs.Kept.{kept_message, Becomes, Acts};
+    ghost use Rattle.craft.specs.Kept.{kept_body, Becomes, Acts};
     ghost use Rattle.std.specs.Prelude.{◌≡◌};
-    ghost use Rattle.world_model.specs.Messages as model;
+    ghost use Rattle.entry_frames.specs.Messages as model;
     ghost use Rattle.world_model.specs.Rules.Terms.{in_term, caught_up, refuses_stale};
 
     /// Follows a higher term: no vote is cast in it yet, and nothing was heard.
@@ -23,29 +25,42 @@ impl Node {
         self.voters = Voters::none();
     }
 
-    /// Follows the message's term where it is higher.
-    pub fn catch_up(&mut self, message: &Message)
-        ensures { (m : model.Message) → message.now ≡ kept_message m → Becomes (λ n. caught_up n m) self.old self.new }
+    /// Follows the term of a message where it is higher.
+    pub fn catch_up(&mut self, term: u64)
+        ensures { (m : model.Message) → term ≡ m.term → Becomes (λ n. caught_up n m) self.old self.new }
     {
-        if self.term < message.term {
-            self.enter_term(message.term);
+        if self.term < term {
+            self.enter_term(term);
         }
     }
 
-    /// Answers a message of a lower term: a request for a vote learns of the present term, a reply is dropped.
+    /// Answers a message of a lower term: a candidate and a leader learn of the present term, a reply is dropped.
     pub fn refuse_stale(
         &mut self,
-        message: &Message,
+        sender: MemberId,
+        body: &Peer,
         sends: &mut Vec<Message>,
     ) -> Result<(), OutOfMemory>
-        ensures { OnOk result ((m : model.Message) → message.now ≡ kept_message m → Acts (λ n. refuses_stale n m) self.old self.new sends.old.items sends.new.items) }
+        ensures { OnOk result ((m : model.Message) → sender ≡ m.sender → body.now ≡ kept_body m.body → Acts (λ n. refuses_stale n m) self.old self.new sends.old.items sends.new.items) }
     {
-        match message.body {
-            Body::VoteRequest { .. } => {
-                sends.push(self.says(Body::VoteReply { granted: false }, message.sender))?
+        match body {
+            Peer::Vote { .. } => {
+                sends.push(self.says(Peer::VoteReply { granted: false }, sender))?
             }
-            Body::VoteReply { .. } => {}
+            Peer::Append { .. } | Peer::Ask { .. } => sends.push(self.refuses(sender))?,
+            Peer::VoteReply { .. }
+            | Peer::Matched { .. }
+            | Peer::Refused { .. }
+            | Peer::Answer { .. } => {}
         }
         Ok(())
+    }
+
+    /// Refuses what a leader of a lower term asks, and says from which index it may go on.
+    fn refuses(&self, leader: MemberId) -> Message
+        ensures { result ≡ message_from self.now (Refused (self.now.commit + 1)) leader }
+    {
+        let next = u64::from(self.commit) + 1;
+        self.says(Peer::Refused { next }, leader)
     }
 }

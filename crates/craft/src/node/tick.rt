@@ -1,10 +1,10 @@
 //! Tick: a node that has heard nothing for long enough stands for election.
 ghost use Rattle.std.specs.Prelude.{◌<◌, ◌^◌, OnOk};
 
-use crate::message::{Body, Message};
-use crate::node::{Node, Role};
+use crate::node::Node;
 use crate::voters::Voters;
 use craft_base::OutOfMemory;
+use peer_frames::{Message, Role};
 
 /// Quiet ticks are counted up to here.
 const MOST_QUIET: u64 = 100;
@@ -23,7 +23,7 @@ impl Node {
                 self.stand_if_due(word, sends)?;
             }
             // A beat tells a leader who answered since the one before; nothing is asked of it yet.
-            Role::Leader => {}
+            Role::Preparing | Role::Leader => {}
         }
         Ok(())
     }
@@ -64,11 +64,7 @@ impl Node {
     fn ask_for_votes(&mut self, sends: &mut Vec<Message>) -> Result<(), OutOfMemory>
         ensures { OnOk result (Acts asks_for_votes self.old self.new sends.old.items sends.new.items) }
     {
-        let body = Body::VoteRequest {
-            last_term: self.log_end.term,
-            last: self.log_end.index,
-        };
-        self.send_to_others(body, sends)?;
+        self.ask_others(sends)?;
         Ok(())
     }
 }

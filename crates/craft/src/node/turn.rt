@@ -1,15 +1,15 @@
 //! The turn: what a node is told, the rule that it calls for, and what the node tells.
 ghost use Rattle.std.specs.Prelude.{◌≡◌, ◌++◌, IfOk, OnOk, map};
 ghost use Rattle.std.specs.Option.{option_to_list};
-ghost use Rattle.craft.specs.declared.node.turn.Output.TheVariants.{Send};
+ghost use Rattle.peer_frames.specs.declared.output.Output.TheVariants.{Send};
 
-use crate::message::{Body, Message};
-use crate::node::{Node, Role};
+use crate::node::Node;
 use craft_base::{MemberId, OutOfMemory};
+use peer_frames::{Message, Output, Peer, Role};
 use std::alloc::Global;
 
 /// What a node is told.
-#[derive(Clone, Copy, Debug)]
+#[derive(Debug, Drop)]
 pub enum Input {
     /// Time passes. The word chooses how long is long enough.
     Tick { word: u64 },
@@ -17,19 +17,10 @@ pub enum Input {
     Deliver(Message),
 }
 
-/// What a node tells.
-#[derive(Clone, Copy, Debug)]
-pub enum Output {
-    /// Its role and term, where they changed.
-    RoleChange { role: Role, term: u64 },
-    /// A message to another member.
-    Send(Message),
-}
-
 impl Node {
     ghost use Rattle.craft.specs.Kept.{kept_node, kept_message, kept_body, Acts};
     ghost use Rattle.craft.specs.Turns.{kept_input, kept_output, change_of};
-    ghost use Rattle.world_model.specs.Messages as model;
+    ghost use Rattle.entry_frames.specs.Messages as model;
     ghost use Rattle.world_model.specs.Nodes as nodes;
     ghost use Rattle.world_model.specs.Turn as turns;
 
@@ -42,7 +33,7 @@ impl Node {
         let term = self.term;
         let mut sends = Vec::new(alloc);
         self.act(input, &mut sends)?;
-        let outputs = tell(alloc, self.change_since(role, term), &sends)?;
+        let outputs = tell(alloc, self.change_since(role, term), sends)?;
         Ok(outputs)
     }
 
@@ -57,16 +48,38 @@ impl Node {
         Ok(())
     }
 
-    /// Takes a message, by its term and then by what it says.
+    /// Takes a message of another member; others aren't taken yet.
     fn take(&mut self, message: &Message, sends: &mut Vec<Message>) -> Result<(), OutOfMemory>
         ensures { OnOk result ((m : model.Message) → message.now ≡ kept_message m → Acts (turns.takes m) self.old self.new sends.old.items sends.new.items) }
     {
-        if message.term < self.term {
-            self.refuse_stale(message, sends)?;
+        match message {
+            Message::Peer {
+                from,
+                term,
+                body,
+                ..
+            } => self.take_peer(*from, *term, body, sends)?,
+            Message::Request { .. } | Message::Answered { .. } => {}
+        }
+        Ok(())
+    }
+
+    /// Takes a message of another member, by its term and then by what it says.
+    fn take_peer(
+        &mut self,
+        sender: MemberId,
+        term: u64,
+        body: &Peer,
+        sends: &mut Vec<Message>,
+    ) -> Result<(), OutOfMemory>
+        ensures { OnOk result ((m : model.Message) → sender ≡ m.sender → term ≡ m.term → body.now ≡ kept_body m.body → Acts (turns.takes m) self.old self.new sends.old.items sends.new.items) }
+    {
+        if term < self.term {
+            self.refuse_stale(sender, body, sends)?;
             return Ok(());
         }
-        self.catch_up(message);
-        self.take_body(message.sender, message.body, sends)?;
+        self.catch_up(term);
+        self.take_body(sender, body, sends)?;
         Ok(())
     }
 
@@ -74,16 +87,22 @@ impl Node {
     fn take_body(
         &mut self,
         sender: MemberId,
-        body: Body,
+        body: &Peer,
         sends: &mut Vec<Message>,
     ) -> Result<(), OutOfMemory>
-        ensures { OnOk result ((b : model.Body) → body ≡ kept_body b → Acts (λ n. turns.takes_body n sender b) self.old self.new sends.old.items sends.new.items) }
+        ensures { OnOk result ((b : model.Body) → body.now ≡ kept_body b → Acts (λ n. turns.takes_body n sender b) self.old self.new sends.old.items sends.new.items) }
     {
         match body {
-            Body::VoteRequest { last_term, last } => {
-                self.consider_vote(sender, last_term, last, sends)?
+            Peer::Vote { last_term, last } => {
+                self.consider_vote(sender, *last_term, *last, sends)?
             }
-            Body::VoteReply { granted } => self.count_reply(sender, granted),
+            Peer::VoteReply { granted } => self.count_reply(sender, *granted),
+            // The rules of these aren't built yet.
+            Peer::Append { .. }
+            | Peer::Matched { .. }
+            | Peer::Refused { .. }
+            | Peer::Ask { .. }
+            | Peer::Answer { .. } => {}
         }
         Ok(())
     }
@@ -95,7 +114,7 @@ impl Node {
         if role == self.role && term == self.term {
             return None;
         }
-        Some(Output::RoleChange {
+        Some(Output::Role {
             role: self.role,
             term: self.term,
         })
@@ -106,16 +125,16 @@ impl Node {
 fn tell(
     alloc: Global,
     change: Option<Output>,
-    sends: &[Message],
+    sends: Vec<Message>,
 ) -> Result<Vec<Output>, OutOfMemory>
-    ensures { IfOk result (λ outputs. outputs.items ≡ option_to_list change ++ map Send sends.now) }
+    ensures { IfOk result (λ outputs. outputs.items ≡ option_to_list change ++ map Send sends.items) }
 {
     let mut outputs = Vec::new(alloc);
     if let Some(change) = change {
         outputs.push(change)?;
     }
     for message in sends {
-        outputs.push(Output::Send(*message))?;
+        outputs.push(Output::Send { message })?;
     }
     Ok(outputs)
 }

@@ -1,10 +1,10 @@
 //! Vote: a member votes once in a term, and only for a candidate whose log is at least as good as its own.
 ghost use Rattle.std.specs.Prelude.{OnOk};
 
-use crate::message::{Body, Message};
 use crate::node::Node;
 use craft_base::{MemberId, OutOfMemory};
 use election::vote_verdict;
+use peer_frames::{Message, Peer};
 
 impl Node {
     ghost use Rattle.craft.specs.Kept.{Becomes, Acts};
@@ -31,7 +31,7 @@ impl Node {
         if granted {
             self.cast_vote(candidate);
         }
-        sends.push(self.says(Body::VoteReply { granted }, candidate))?;
+        sends.push(self.says(Peer::VoteReply { granted }, candidate))?;
         Ok(())
     }
 

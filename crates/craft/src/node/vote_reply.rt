@@ -1,8 +1,9 @@
 //! VoteReply: a candidate that has the votes of more than half of the members leads.
 ghost use Rattle.std.specs.Prelude.{◌≡◌};
 
-use crate::node::{Node, Role};
+use crate::node::Node;
 use craft_base::MemberId;
+use peer_frames::Role;
 
 impl Node {
     ghost use Rattle.craft.specs.Kept.{kept_node, Becomes};
@@ -19,7 +20,7 @@ impl Node {
                 self.hear_vote(sender, granted);
                 self.lead_if_won();
             }
-            Role::Leader => self.hear_vote(sender, granted),
+            Role::Preparing | Role::Leader => self.hear_vote(sender, granted),
         }
     }
 

@@ -1,7 +1,7 @@
 -- What a rule makes of a node.
 use Rattle.std.specs.Prelude.{ℕ, List, [], map, filter, not, ◌==◌}
+use Rattle.entry_frames.specs.Messages.{Body, Message}
 use Rattle.world_model.specs.Knowledge.{members}
-use Rattle.world_model.specs.Messages.{Body, Message}
 use Rattle.world_model.specs.Nodes.{Node}
 
 pub record Act : Type 0 where

@@ -1,17 +1,15 @@
--- Tick: a follower or a candidate that has heard nothing for long enough stands for election; a leader counts a beat.
-use Rattle.std.specs.Prelude.{ℕ, ◌+◌, ◌%◌, ◌^◌, min, [], ◌∷◌, None, Some, Bool, ◌&&◌, if◌then◌else◌, nat_le, nat_lt}
+-- Tick: a follower or a candidate that has heard nothing for long enough stands for election; a node that has won counts a beat.
+use Rattle.std.specs.Prelude.{ℕ, ◌+◌, ◌%◌, min, [], ◌∷◌, None, Some, Bool, ◌&&◌, if◌then◌else◌, nat_le, nat_lt}
+use Rattle.entry_frames.specs.Limits.{greatest}
+use Rattle.entry_frames.specs.Messages.{VoteRequest}
+use Rattle.entry_frames.specs.Outputs.{Role, Follower, Candidate, Preparing, Leader}
 use Rattle.world_model.specs.Logs.{last_index, last_term}
-use Rattle.world_model.specs.Messages.{VoteRequest}
-use Rattle.world_model.specs.Nodes.{Role, Follower, Candidate, Leader, Beat, Node}
+use Rattle.world_model.specs.Nodes.{Beat, Node}
 use Rattle.world_model.specs.Rules.Acts.{Act, stays, says_to_others}
-
--- the greatest term
-abbrev pub last_term_number : ℕ
-last_term_number = 2 ^ 62
 
 -- whether that many quiet ticks are enough, by a word that the clock chooses, and a higher term is left
 abbrev pub is_due : ℕ → ℕ → ℕ → Bool
-is_due quiet word term = nat_le (3 + word % 8) quiet && nat_lt term last_term_number
+is_due quiet word term = nat_le (3 + word % 8) quiet && nat_lt term greatest
 
 -- one more quiet tick; they are counted up to 100
 abbrev pub waits : Node → Node
@@ -30,17 +28,18 @@ abbrev pub asks_for_votes : Node → Act
 asks_for_votes n =
     record { node = n; sends = says_to_others n (VoteRequest (last_term n.durable.log) (last_index n.durable.log)) }
 
--- a node that doesn't lead stands for election where it is due
+-- a node that hasn't won stands for election where it is due
 abbrev pub waits_or_stands : ℕ → Node → Act
 waits_or_stands word n = if is_due n.volatile.quiet word n.durable.term then asks_for_votes (as_candidate n) else stays n
 
--- a leader counts a beat
+-- a node that has won counts a beat
 abbrev pub beats : Node → Node
 beats n = record n { volatile = record n.volatile { heard = Beat ∷ n.volatile.heard } }
 
 abbrev pub ticks_as : Role → ℕ → Node → Act
 ticks_as Follower word n = waits_or_stands word (waits n)
 ticks_as Candidate word n = waits_or_stands word (waits n)
+ticks_as Preparing word n = stays (beats n)
 ticks_as Leader word n = stays (beats n)
 
 abbrev pub ticks : ℕ → Node → Act

@@ -1,7 +1,7 @@
 -- Vote: a member votes once in a term, and only for a candidate whose log is at least as good as its own.
 use Rattle.std.specs.Prelude.{ℕ, ◌∷◌, [], Option, None, Some, Bool, true, false, ◌&&◌, ◌||◌, ◌==◌, if◌then◌else◌, nat_le, nat_lt}
+use Rattle.entry_frames.specs.Messages.{VoteReply}
 use Rattle.world_model.specs.Logs.{last_index, last_term}
-use Rattle.world_model.specs.Messages.{VoteReply}
 use Rattle.world_model.specs.Nodes.{Node}
 use Rattle.world_model.specs.Rules.Acts.{Act, says}
 

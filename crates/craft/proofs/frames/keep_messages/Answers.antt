@@ -1,21 +1,18 @@
-use Rattle.std.proofs.Common.{◌≡◌, ◌+◌, ◌++◌, ◌∷◌, [], ◌∙◌, ap, sym, take, append_assoc, append-nil}
-use Rattle.craft.specs.Worlds.{messages_among}
+use Rattle.std.proofs.Common.{◌++◌, ◌∷◌, [], ◌∙◌, ap, map, sym, take, append_assoc}
+use Rattle.std.proofs.lemmas.List.{map-append}
+use Rattle.craft.specs.Frames.{frame_bytes, messages_among}
 use Rattle.craft.proofs.Sent.{messages_among_more}
 use Rattle.craft.proofs.frames.keep_messages.Goals as goal
-use Rattle.craft.proofs.frames.keep_messages.Goals.{in-RoleChange, in-Send+in_ok-push-in-Send}
 
 pub loop-output-preserved : goal.loop-output-preserved
 loop-output-preserved c =
+    let bytes = map (frame_bytes c.args.shape.now) in
     let before = messages_among (take c.loop-output.output-index c.args.outputs.now) in
-    let more : messages_among (take (c.loop-output.output-index + 1) c.args.outputs.now) ≡ before ++ messages_among (c.output-item.result ∷ []) =
-    messages_among_more c.args.outputs.now c.loop-output.output-index c.output-item.result c.loop-output-test.true
-    ∙ ap (λ output. before ++ messages_among (output ∷ [])) (sym c.output-item.is) in
-    elim c.match-output.branch [
-      | in-RoleChange w ↦
-          ap (λ v. v.items) w.sent-is ∙ c.loop-output.invariant
-          ∙ ap (λ ms. c.args.sent.now.items ++ ms) (sym (more ∙ ap (λ output. before ++ messages_among (output ∷ [])) w.in-RoleChange.is ∙ append-nil before))
-      | in-Send+in_ok-push-in-Send w ↦
-          ap (λ v. v.items) w.sent-is ∙ w.in_ok-push-in-Send.ensures.items ∙ ap (λ ms. ms ++ w.in-Send.message ∷ []) c.loop-output.invariant
-          ∙ append_assoc c.args.sent.now.items before (w.in-Send.message ∷ [])
-          ∙ ap (λ ms. c.args.sent.now.items ++ ms) (sym (more ∙ ap (λ output. before ++ messages_among (output ∷ [])) w.in-Send.is))
-    ]
+    let one = messages_among (c.output-item.result ∷ []) in
+    c.in_ok-keep_message.ensures ∙ ap (λ frames. frames ++ bytes one) c.loop-output.invariant
+    ∙ append_assoc c.args.sent.now.items (bytes before) (bytes one)
+    ∙ ap (λ frames. c.args.sent.now.items ++ frames)
+    (sym (map-append (frame_bytes c.args.shape.now) before one)
+    ∙ ap bytes
+    (ap (λ output. before ++ messages_among (output ∷ [])) c.output-item.is
+    ∙ sym (messages_among_more c.args.outputs.now c.loop-output.output-index c.output-item.result c.loop-output-test.true)))

@@ -1,5 +1,4 @@
 use Rattle.std.proofs.Common.{◌+◌, ◌++◌, ◌∙◌, drop, ap, sym, arith, append-nil}
-use Rattle.std.specs.Prelude.{string_bytes}
 use Rattle.world_model.specs.Lines.{output_lines}
 use Rattle.craft.proofs.Printing.{next_output, none_left, printed_more}
 use Rattle.craft.proofs.lines.push_outputs.Goals as goal
@@ -8,15 +7,15 @@ pub loop-output-preserved : goal.loop-output-preserved
 loop-output-preserved c = record {
   told = λ all is_all.
       let next = next_output all c.args.outputs.now c.loop-output.output-index is_all c.loop-output-test.true c.output-item.result c.output-item.is in
-      printed_more (string_bytes c.loop-output.text) (string_bytes c.push_output.new.text) c.args.member c.loop-output.frame c.in_ok-frame.frame next.0
-      (drop c.loop-output.output-index all) (drop (c.loop-output.output-index + 1) all) next.2 (c.in_ok-frame.ensures.line next.0 next.1) (c.in_ok-frame.ensures.next next.0 next.1)
+      printed_more c.loop-output.text.items c.push_output.new.text.items c.args.member c.loop-output.frame c.next_frame-frame.result next.0
+      (drop c.loop-output.output-index all) (drop (c.loop-output.output-index + 1) all) next.2 (c.in_ok-push_output.ensures next.0 next.1) (c.next_frame-frame.ensures.next next.0 next.1)
       ∙ c.loop-output.invariant.told all is_all;
-  few = omega (arith, c.in_ok-frame.ensures.range);
+  few = omega (arith, c.next_frame-frame.ensures.range);
 }
 
 pub returns : goal.returns
 returns c = λ all is_all.
     let none = none_left all c.args.outputs.now c.loop-output.output-index is_all c.loop-output-test.false in
-    sym (append-nil (string_bytes c.loop-output.text))
-    ∙ sym (ap (λ left. string_bytes c.loop-output.text ++ output_lines c.args.member c.loop-output.frame left) none)
+    sym (append-nil c.loop-output.text.items)
+    ∙ sym (ap (λ left. c.loop-output.text.items ++ output_lines c.args.member c.loop-output.frame left) none)
     ∙ c.loop-output.invariant.told all is_all

@@ -1,7 +1,6 @@
 use Rattle.std.proofs.Common.{◌≡◌, ◌≤◌, ◌+◌, ◌++◌, List, map, drop}
-use Rattle.std.specs.Prelude.{string_bytes}
 use Rattle.world_model.specs.Lines.{output_lines}
-use Rattle.world_model.specs.Turn.{Output}
+use Rattle.entry_frames.specs.Outputs.{Output}
 use Rattle.craft.specs.Turns.{kept_output}
 use Rattle.craft.proofs.lines.push_outputs.Given as goal
 
@@ -10,6 +9,6 @@ abbrev pub invariant-loop-output : goal.invariant-loop-output
 invariant-loop-output l = record {
   told :
       (all : List Output) → l.outputs ≡ map kept_output all →
-      string_bytes l.text ++ output_lines l.member l.frame (drop l.output-index all) ≡ string_bytes l.fn.text ++ output_lines l.member l.fn.frame all;
+      l.text.items ++ output_lines l.member l.frame (drop l.output-index all) ≡ l.fn.text.items ++ output_lines l.member l.fn.frame all;
   few : l.frame ≤ l.fn.frame + l.output-index;
 }

@@ -1,7 +1,7 @@
 use Rattle.std.proofs.Common.{◌∙◌, refl, ap, sym, subst}
 use Rattle.world_model.specs.Schedule as schedule
 use Rattle.line_input.specs.Lines.{TakesLine}
-use Rattle.craft.proofs.Reading.{broken_line, bad_line, event_line, event_found, event_none}
+use Rattle.craft.proofs.Reading.{broken_line, bad_line, event_line, event_found}
 use Rattle.world_model.proofs.Inputs.{good_line}
 use Rattle.craft.proofs.replay.next_event.Goals as goal
 
@@ -12,9 +12,9 @@ returns-in-Broken-clause-failed g c = (
       (subst (TakesLine (g.S.Source.left c.args.src.now) (g.S.Source.left c.read_line.new.src) c.read_line.new.line.items) c.in-Broken.is c.in_ok-read_line.ensures.taken),
 )
 
-pub returns-in-Some-clause-read : goal.returns-in-Some-clause-read
-returns-in-Some-clause-read g c =
-    let found = event_found (schedule.event_of c.args.shape.now c.deref.result.now) c.in-Some.event (sym c.in-Some.is ∙ c.in_ok-event-in-LineFeed.ensures) in (
+pub returns-in-Ok-clause-read : goal.returns-in-Ok-clause-read
+returns-in-Ok-clause-read g c =
+    let found = event_found (schedule.event_of c.args.shape.now c.deref.result.now) c.in-Ok.asked c.in-Ok.ensures.good in (
       found.0,
       found.2,
       event_line c.args.shape.now c.args.number (g.S.Source.left c.args.src.now) (g.S.Source.left c.read_line.new.src) c.read_line.new.line.items found.0
@@ -22,11 +22,11 @@ returns-in-Some-clause-read g c =
           c.requires (ap (schedule.event_of c.args.shape.now) (sym c.deref.ensures.value) ∙ found.1),
     )
 
-pub returns-in-None-clause-failed : goal.returns-in-None-clause-failed
-returns-in-None-clause-failed g c =
+pub returns-in-Err-Bad-clause-failed : goal.returns-in-Err-Bad-clause-failed
+returns-in-Err-Bad-clause-failed g c =
     let taken = subst (TakesLine (g.S.Source.left c.args.src.now) (g.S.Source.left c.read_line.new.src) c.read_line.new.line.items) c.in-LineFeed.is c.in_ok-read_line.ensures.taken in (
       refl,
       bad_line c.args.shape.now c.args.number (g.S.Source.left c.args.src.now) (g.S.Source.left c.read_line.new.src) c.read_line.new.line.items taken
           (good_line c.args.shape.now c.args.number c.read_line.new.line.items taken.2 c.requires
-          ∙ ap (schedule.event_of c.args.shape.now) (sym c.deref.ensures.value) ∙ event_none (schedule.event_of c.args.shape.now c.deref.result.now) (sym c.in-None.is ∙ c.in_ok-event-in-LineFeed.ensures)),
+          ∙ ap (schedule.event_of c.args.shape.now) (sym c.deref.ensures.value) ∙ c.in-Err-Bad.ensures.bad c.in-Err-Bad.field-0-is),
     )

@@ -1,6 +1,5 @@
-use Rattle.std.proofs.Common.{◌≡◌, ◌∙◌, ap, map, subst, sym, Some}
+use Rattle.std.proofs.Common.{◌∙◌, ap, map, subst, sym}
 use Rattle.std.specs.Prelude.{string_bytes}
-use Rattle.fragment_text.specs.Streams.{Streams}
 use Rattle.world_model.specs.Words as commands
 use Rattle.craft.specs.Commands.{kept_command}
 use Rattle.craft.specs.Program.{Answers}

@@ -3,4 +3,4 @@ use Rattle.craft.proofs.Sending.{kept-asks_for_votes}
 use Rattle.craft.proofs.node.Node.ask_for_votes.Goals as goal
 
 pub returns : goal.returns
-returns c = λ n e. (e, c.in_ok-send_to_others.ensures ∙ ap (λ ms. c.args.sends.now.items ++ ms) (kept-asks_for_votes c.args.self.now n e))
+returns c = λ n e. (e, c.in_ok-ask_others.ensures ∙ ap (λ ms. c.args.sends.now.items ++ ms) (kept-asks_for_votes c.args.self.now n e))

@@ -1,6 +1,6 @@
 use Rattle.std.proofs.Common.{◌++◌, ◌∙◌, ap, map}
 use Rattle.std.specs.Option.{option_to_list}
-use Rattle.craft.specs.declared.node.turn.Output.TheVariants.{Send}
+use Rattle.peer_frames.specs.declared.output.Output.TheVariants.{Send}
 use Rattle.craft.proofs.Turning.{told_kept, sent_alone}
 use Rattle.craft.proofs.node.Node.turn.Goals as goal
 
@@ -8,5 +8,5 @@ pub returns-clause-outputs : goal.returns-clause-outputs
 returns-clause-outputs c = λ i n is_i is_n.
     let acted = c.in_ok-act.ensures i is_i n is_n in
     c.in_ok-outputs.ensures
-    ∙ ap (λ change. option_to_list change ++ map Send c.deref.result.now) c.change_since.ensures
-    ∙ told_kept c.args.self.now n c.act.new.self c.deref.result.now i is_n acted.0 (c.deref.ensures.value ∙ sent_alone _ _ _ c.new-sends.ensures.items acted.1)
+    ∙ ap (λ change. option_to_list change ++ map Send c.act.new.sends.items) c.change_since.ensures
+    ∙ told_kept c.args.self.now n c.act.new.self c.act.new.sends.items i is_n acted.0 (sent_alone _ _ _ c.new-sends.ensures.items acted.1)

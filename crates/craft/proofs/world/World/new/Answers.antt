@@ -3,6 +3,7 @@ use Rattle.std.specs.List.{range_with_len}
 use Rattle.std.proofs.lemmas.List.FromFn.{map-range_with_len_more}
 use Rattle.craft_base.specs.Parameters.{members_of}
 use Rattle.world_model.specs.Nodes.{started, born}
+use Rattle.world_model.proofs.Ranges.Worlds.{start_in_range}
 use Rattle.craft.specs.Kept.{kept_node}
 use Rattle.craft.proofs.Worlds.{started_kept}
 use Rattle.craft.proofs.world.World.new.Goals as goal
@@ -17,6 +18,8 @@ pub returns : goal.returns
 returns c =
     let all : c.loop-number.number ≡ members_of c.args.shape.now = omega arith in
     record {
+      group = c.is_group.ensures;
+      in_range = start_in_range c.is_group.ensures;
       nodes = started_kept (λ me. started c.args.shape.now me born) (members_of c.args.shape.now) c.loop-number.nodes.items
           (c.loop-number.invariant ∙ ap (λ count. map (λ me. kept_node (started c.args.shape.now me born)) (range_with_len 0 count)) all);
       sent = c.new.ensures.items;

@@ -1,33 +1,45 @@
-use Rattle.std.proofs.Common.{◌≡◌, ◌<◌, ◌++◌, ◌∙◌, ap, sym, length, map, arith, get_or}
-use Rattle.std.specs.Prelude.{slice_get, slice_set, Some}
-use Rattle.world_model.specs.Nodes as nodes
+use Rattle.std.proofs.Common.{◌≡◌, ◌++◌, ◌∙◌, ap, refl, sym, map, arith}
+use Rattle.std.specs.Prelude.{slice_set}
+use Rattle.std.proofs.lemmas.List.{map-append}
 use Rattle.world_model.specs.World as model
 use Rattle.world_model.specs.Turn as turns
-use Rattle.craft.specs.Kept.{kept_node}
+use Rattle.craft.specs.Kept.{kept_message}
 use Rattle.craft.specs.Turns.{kept_input}
-use Rattle.craft.specs.Worlds.{StandsFor, messages_among}
-use Rattle.craft.proofs.Worlds.{IsKept, node_found, turned_at}
+use Rattle.craft.specs.Frames.{frame_bytes, messages_among}
+use Rattle.craft.specs.Worlds.{StandsFor}
+use Rattle.craft.proofs.Spelled.{turn_can_send}
+use Rattle.craft.proofs.Worlds.{IsKept, node_here, turned_at}
 use Rattle.craft.proofs.world.World.turn_at.Goals as goal
 use Rattle.craft.proofs.world.World.turn_at.Goals.{In_ok-keep_messages}
 
+pub keep_messages-requires : goal.keep_messages-requires
+keep_messages-requires c =
+    let t = c.requires in
+    let n = node_here c.args.self.now t.world t.stands c.args.member c.from-place.result c.index_mut.result.now (c.from-place.ensures ∙ c.number.ensures.value) (omega (arith, c.args.self.now.nodes.ok.0)) c.index_mut.ensures.value in
+    turn_can_send c.args.self.now.shape t.world c.args.member t.said n.0 n.1 t.stays c.deref.result.now
+    (c.deref.ensures.value ∙ c.in_ok-outputs.ensures.outputs t.said n.0 t.is n.2)
+
 -- the world after the turn, and what is told of it
 kept : (c : In_ok-keep_messages) (i : turns.Input) (w : model.World) → c.args.input.now ≡ kept_input i → StandsFor c.args.self.now w
-    → IsKept (slice_set c.args.self.now.nodes.items c.args.member c.turn.new.self) (c.args.self.now.sent.items ++ messages_among c.deref.result.now) c.args.member c.deref.result.now (model.turn_at w c.args.member i)
+    → IsKept (slice_set c.args.self.now.nodes.items c.args.member c.turn.new.self) (map kept_message w.sent ++ messages_among c.deref.result.now) c.args.member c.deref.result.now (model.turn_at w c.args.member i)
 kept c i w is_i s =
-    let place : c.from-place.result ≡ c.args.member = c.from-place.ensures ∙ c.number.ensures.value in
-    let within : c.args.member < length (map kept_node w.nodes) = omega (arith, ap length s.nodes, c.args.self.now.nodes.ok.0) in
-    let found : (n : nodes.Node) × (slice_get w.nodes c.args.member ≡ Some n) × (c.index_mut.result.now ≡ kept_node n) =
-    node_found w.nodes c.args.member c.index_mut.result.now within
-    (c.index_mut.ensures.value ∙ ap (λ p. get_or c.args.self.now.nodes.items p c.index_mut.result.now) place ∙ ap (λ ns. get_or ns c.args.member c.index_mut.result.now) s.nodes) in
-    turned_at c.args.self.now.nodes.items c.args.self.now.sent.items w s.nodes s.sent c.args.member i found.0 found.1 c.turn.new.self c.deref.result.now
-    (c.in_ok-outputs.ensures.node i found.0 is_i found.2) (c.deref.ensures.value ∙ c.in_ok-outputs.ensures.outputs i found.0 is_i found.2)
+    let n = node_here c.args.self.now w s c.args.member c.from-place.result c.index_mut.result.now (c.from-place.ensures ∙ c.number.ensures.value) (omega (arith, c.args.self.now.nodes.ok.0)) c.index_mut.ensures.value in
+    turned_at c.args.self.now.nodes.items (map kept_message w.sent) w s.nodes refl c.args.member i n.0 n.1 c.turn.new.self c.deref.result.now
+    (c.in_ok-outputs.ensures.node i n.0 is_i n.2) (c.deref.ensures.value ∙ c.in_ok-outputs.ensures.outputs i n.0 is_i n.2)
 
 pub returns-clause-world : goal.returns-clause-world
-returns-clause-world c = λ i w is_i s.
+returns-clause-world c = λ i w is_i s stays.
     let k = kept c i w is_i s in
+    let bytes = frame_bytes c.args.self.now.shape in
     record {
+      group = s.group;
+      in_range = stays;
       nodes = ap (λ p. slice_set c.args.self.now.nodes.items p c.turn.new.self) (c.from-place.ensures ∙ c.number.ensures.value) ∙ k.of_nodes;
-      sent = c.in_ok-keep_messages.ensures ∙ k.of_sent;
+      sent =
+          c.in_ok-keep_messages.ensures
+          ∙ ap (λ frames. frames ++ map bytes (messages_among c.deref.result.now)) s.sent
+          ∙ sym (map-append bytes (map kept_message w.sent) (messages_among c.deref.result.now))
+          ∙ ap (map bytes) k.of_sent;
     }
 
 pub returns-clause-told : goal.returns-clause-told

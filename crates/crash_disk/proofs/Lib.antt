@@ -1,0 +1,6 @@
+pub mod Calls
+pub mod Crashes
+pub mod Keeping
+pub mod Spoiling
+pub mod Unit
+pub mod Writing

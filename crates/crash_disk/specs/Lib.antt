@@ -1,0 +1,7 @@
+pub mod Codes
+pub mod Image
+pub mod Kept
+pub mod MemDisk
+pub mod Noted
+pub mod Replay
+pub mod Told

@@ -1,0 +1,16 @@
+pub mod Formats
+pub mod Steps
+pub mod Limits
+pub mod Operations
+pub mod Entries
+pub mod Views
+pub mod Replies
+pub mod Records
+pub mod RecordViews
+pub mod Messages
+pub mod Outputs
+pub mod Logs
+pub mod Kinds
+pub mod MessageParts
+pub mod MessageFields
+pub mod Durable

@@ -1,0 +1,10 @@
+//! How great the numbers of a log and of its entries can be.
+
+/// The greatest term, client's number, request's number and expected version.
+pub const GREATEST: u64 = 1 << 62;
+
+/// The greatest index of a log, and so the greatest version.
+pub const LAST_PLACE: u64 = 1_000_000;
+
+/// The most bytes of a value.
+pub const LONGEST_VALUE: u32 = 32_768;

@@ -1,0 +1,12 @@
+//! The words of a line.
+ghost use Rattle.std.specs.Prelude.{◌≡◌, ◌==◌, map, IfOk};
+ghost use Rattle.std.specs.List.{slice_split};
+
+use std::alloc::{AllocError, Global};
+
+/// The words of a line, between single blanks.
+pub fn words(alloc: Global, line: &[u8]) -> Result<Vec<&[u8]>, AllocError>
+    ensures { IfOk result (λ words. map (λ word. word.now) words.items ≡ slice_split (λ byte. byte == 32) line.now) }
+{
+    line.split(|byte| *byte == b' ').collect(alloc)
+}

@@ -1,0 +1,7 @@
+pub mod Batches
+pub mod Bodies
+pub mod Frames
+pub mod Reading
+pub mod Whole
+pub mod Spelled
+pub mod Heads

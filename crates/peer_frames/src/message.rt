@@ -1,0 +1,71 @@
+//! What members and clients tell each other.
+
+use crate::batch::Batch;
+use craft_base::{MemberId, Reply, Request};
+
+/// What a message of one member to another says, after Raft's remote calls and CRaft's. Indexes are those of a log, from 1
+/// on; the ranges stand in docs/FORMATS.md, "Messages".
+#[derive(Debug, Drop)]
+pub enum Peer {
+    /// A candidate asks for a vote, and shows the term and the index of its log's last entry.
+    Vote {
+        last_term: u64,
+        last: u64,
+    },
+    /// Whether the vote is granted.
+    VoteReply {
+        granted: bool,
+    },
+    /// A leader sends the entries behind `prev`, and says which term stands there and how far it has committed.
+    Append {
+        prev: u64,
+        prev_term: u64,
+        commit: u64,
+        entries: Batch,
+    },
+    /// A follower's log is the leader's up to `count` entries behind `prev`; bit b of the mask is set where it holds the
+    /// entry at `prev + 1 + b` whole.
+    Matched {
+        prev: u64,
+        count: u8,
+        mask: u8,
+    },
+    /// It isn't; the leader may go on from `next`.
+    Refused {
+        next: u64,
+    },
+    /// A leader, or one that prepares to lead, asks for a log from `start` on.
+    Ask {
+        start: u64,
+    },
+    /// The entries of a log from `start` on, and the index of its last one.
+    Answer {
+        start: u64,
+        last: u64,
+        slots: Batch,
+    },
+}
+
+/// All that travels.
+#[derive(Debug, Drop)]
+pub enum Message {
+    /// A message of one member to another, with the sender's term.
+    Peer {
+        from: MemberId,
+        to: MemberId,
+        term: u64,
+        body: Peer,
+    },
+    /// A client's request to a member.
+    Request {
+        to: MemberId,
+        request: Request,
+    },
+    /// A member's reply to the request of that number of that client.
+    Answered {
+        from: MemberId,
+        client: u64,
+        seq: u64,
+        reply: Reply,
+    },
+}

@@ -1,0 +1,67 @@
+//! The grammar of a schedule's lines.
+ghost use Rattle.std.specs.Prelude.{◌≡◌, map, Some, None, IfOk, IfErr};
+ghost use Rattle.std.specs.Option.{option_map};
+ghost use Rattle.world_model.specs.Schedule.{event_of, event_of_words, tick_line, take_line};
+ghost use Rattle.schedule_text.specs.declared.line.LineFault.TheVariants.{Bad};
+ghost use Rattle.schedule_text.specs.Events.{inner_of_event, line_of_event};
+
+use crate::line::{Inner, Line, LineFault};
+use craft_base::{MemberId, Shape};
+use line_input::{number, words};
+use std::alloc::Global;
+
+/// What a line of a group's schedule asks for. The line comes without its line feed.
+pub fn read_line(alloc: Global, shape: &Shape, line: &[u8]) -> Result<Line, LineFault>
+    // It is the event that the line spells.
+    ensures good { IfOk result (λ read. Some read ≡ option_map line_of_event (event_of shape.now line.now)) }
+
+    // It is bad only where the line spells no event in range; the only other error is want of memory.
+    ensures bad { IfErr result (λ fault. fault ≡ Bad → event_of shape.now line.now ≡ None) }
+{
+    let words = words(alloc, line)?;
+    match inner_of(shape, &words) {
+        Some(inner) => Ok(Line::Do(inner)),
+        None => Err(LineFault::Bad),
+    }
+}
+
+/// What the words of a line say.
+fn inner_of(shape: &Shape, words: &[&[u8]]) -> Option<Inner>
+    ensures { result ≡ option_map inner_of_event (event_of_words shape.now (map (λ word. word.now) words.now)) }
+{
+    match words {
+        [name, member, word] => tick_of(shape, name, member, word),
+        [name, frame] => take_of(name, frame),
+        _ => None,
+    }
+}
+
+/// `tick i word`: the member is one of the group's.
+fn tick_of(shape: &Shape, name: &[u8], member: &[u8], word: &[u8]) -> Option<Inner>
+    ensures { result ≡ option_map inner_of_event (tick_line shape.now name.now member.now word.now) }
+{
+    if name != b"tick".as_slice() {
+        return None;
+    }
+    let member = number(member)?;
+    let word = number(word)?;
+    if member >= u64::from(shape.members()) {
+        return None;
+    }
+    let member = MemberId::new(shape, member as u8)?;
+    Some(Inner::Tick { member, word })
+}
+
+/// `take m`: frames are numbered from 1.
+fn take_of(name: &[u8], frame: &[u8]) -> Option<Inner>
+    ensures { result ≡ option_map inner_of_event (take_line name.now frame.now) }
+{
+    if name != b"take".as_slice() {
+        return None;
+    }
+    let frame = number(frame)?;
+    if frame == 0 {
+        return None;
+    }
+    Some(Inner::Take { frame })
+}

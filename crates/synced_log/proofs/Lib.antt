@@ -1,0 +1,13 @@
+pub mod Marks
+pub mod Bodies
+pub mod Behind
+pub mod Walking
+pub mod Watching
+pub mod Made
+pub mod Places
+pub mod Filling
+pub mod Creating
+pub mod Answering
+pub mod Appending
+pub mod Opening
+pub mod Unique
