@@ -1,15 +1,15 @@
 -- What each step of adding a group leaves, whole or cut short.
-use Rattle.std.proofs.Common.{◌≡◌, ◌≢◌, ◌⊎◌, inl, inr, ℕ, ◌+◌, ◌-◌, ◌<◌, ◌≤◌, min, List, [], ◌∷◌, ◌++◌, length, get_or, take, drop, refl, sym, ap, ◌∙◌, subst, arith, append_assoc, length-append, take-append-drop}
+use Rattle.std.proofs.Common.{◌≡◌, ◌≢◌, ◌⊎◌, inl, inr, ℕ, ◌+◌, ◌<◌, ◌≤◌, min, List, [], ◌∷◌, ◌++◌, length, get_or, take, drop, refl, sym, ap, ◌∙◌, subst, arith, append_assoc, length-append, take-append-drop}
 use Rattle.std.specs.Int.{w64, to_be_bytes}
 use Rattle.std.specs.Prelude.{Option, None, Some, option_map}
 use Rattle.std.proofs.lemmas.Bool.{cases_eq}
-use Rattle.std.proofs.lemmas.List.{append-nil, take_at, drop_at, drop_more, drop-drop}
+use Rattle.std.proofs.lemmas.List.{take_at, drop_at, drop_more}
 use Rattle.craft_edge.specs.Disk.{written, Torn, OnlySeen}
 use Rattle.entry_frames.specs.Durable.{born}
 use Rattle.entry_frames.specs.Records.{Record, group_bytes}
 use Rattle.synced_log.specs.declared.owner.Owner.{Owner}
 use Rattle.synced_log.specs.Crashes.{TornFrom}
-use Rattle.synced_log.specs.Journal.{group_of, header, open_group, open_groups, body_of, IsGroupOf, after_groups, front_of, IsJournal, IsJournalTo, HasNext, HasOrLacksNext}
+use Rattle.synced_log.specs.Journal.{group_of, header, open_group, open_groups, body_of, IsGroupOf, after_groups, front_of, IsJournal, IsJournalTo, HasNext}
 use Rattle.synced_log.specs.Standing.{Added, AddedOrNot}
 use Rattle.synced_log.proofs.Creating.{written_inside}
 use Rattle.synced_log.proofs.Walking.{are_groups-push, open_groups-push}
@@ -138,9 +138,6 @@ module _ (o : Owner) (groups : List (List Record)) (file : List ℕ) (gate : ℕ
 
 abbrev some_of : List ℕ → Option (List ℕ)
 some_of l = Some l
-
-some_same : (a b : List ℕ) → some_of a ≡ some_of b → a ≡ b
-some_same a b e = cc
 
 has_next : (file : List ℕ) (gate : ℕ) (body new : List ℕ) (next : ℕ) → new ≡ written (written file (gate + 1) (group_bytes body)) gate (1 ∷ []) → next ≡ gate + length (group_bytes body)
     → HasNext file gate body new next

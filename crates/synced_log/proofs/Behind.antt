@@ -1,18 +1,18 @@
 -- The group behind an open gate.
-use Rattle.std.proofs.Common.{◌≡◌, ◌≢◌, ℕ, ◌+◌, ◌-◌, ◌^◌, ◌<◌, ◌≤◌, ◌&&◌, Bool, true, false, List, [], ◌∷◌, ◌++◌, length, take, drop, Result, Ok, Err, refl, sym, ap, ◌∙◌, subst, arith, append_assoc}
+use Rattle.std.proofs.Common.{◌≡◌, ℕ, ◌+◌, ◌-◌, ◌^◌, ◌<◌, ◌&&◌, true, List, [], ◌∷◌, ◌++◌, length, take, drop, Result, Ok, refl, sym, ap, ◌∙◌, subst, arith, append_assoc}
 use Rattle.std.specs.Int.{w64, to_be_bytes}
 use Rattle.std.specs.Prelude.{nat_le}
 use Rattle.std.proofs.lemmas.Bool.Decides.{nat_tests}
 use Rattle.std.proofs.lemmas.List.{append-nil, length-append, take_at, drop_at}
 use Rattle.craft_base.specs.Parameters.{Parameters}
 use Rattle.entry_frames.specs.Durable.{Durable}
-use Rattle.entry_frames.specs.Formats.{AreBytes, Fits, Place, Taken, spelling, reading, front_of}
+use Rattle.entry_frames.specs.Formats.{AreBytes, Fits, Taken, spelling, reading, front_of}
 use Rattle.entry_frames.specs.declared.fault.FrameFault.{FrameFault}
 use Rattle.entry_frames.specs.Records.{Record, record_spellings}
 use Rattle.entry_frames.proofs.Formats.{Faithful, front_reads_again, spelled_at_front}
 use Rattle.entry_frames.proofs.Numbers.{ok_is}
-use Rattle.synced_log.specs.Journal.{HaveSpellings, IsGroupOf, StandsBehind, body_of}
-use Rattle.synced_log.specs.Sketches.{Sketch, sketch_of}
+use Rattle.synced_log.specs.Journal.{HaveSpellings, StandsBehind, body_of}
+use Rattle.synced_log.specs.Sketches.{Sketch}
 use Rattle.synced_log.specs.Walks.{body_fields, SpellsAll, TakesRecords, TakesGroup}
 
 fits_body : (body : List ℕ) → length body < 2 ^ 64 → Fits body_fields body
@@ -50,12 +50,6 @@ body_spelled bytes body are read = (spelled_at_front body_fields bytes (λ (b : 
 
 abbrev pub NoneBehind : Parameters → Durable → List ℕ → Type 0
 NoneBehind group d bytes = (records : List Record) (rest : List ℕ) → StandsBehind group d bytes records rest → ⊥
-
-pub no_body : (group : Parameters) (d : Durable) (bytes : List ℕ) (fault : FrameFault) → length bytes < 2 ^ 63 → reading body_fields (front_of bytes) ≡ Err fault → NoneBehind group d bytes
-no_body group d bytes fault room fails records rest stands =
-    let read = only_body bytes (body_of group.need records) rest room stands.is in
-    let clash : Err fault ≡ the_body (body_of group.need records) rest = sym fails ∙ read in
-    absurd cc
 
 no_bytes : (need : ℕ) (records : List Record) → [] ≡ body_of need records → HaveSpellings need records → records ≡ []
 no_bytes need [] e h = refl

@@ -1,13 +1,12 @@
 -- Records that were taken one by one were taken in order, and where one can't be taken there are none.
-use Rattle.std.proofs.Common.{◌≡◌, ℕ, ◌<◌, ◌≤◌, Bool, true, false, List, [], ◌∷◌, ◌++◌, length, drop, refl, sym, ap, ◌∙◌, subst, arith, append_assoc}
+use Rattle.std.proofs.Common.{◌≡◌, ℕ, ◌<◌, true, false, List, [], ◌∷◌, ◌++◌, length, drop, sym, ap, ◌∙◌, subst, arith}
 use Rattle.craft_base.specs.Parameters.{Parameters}
 use Rattle.entry_frames.specs.Durable.{Durable, CanApply, CanApplyAll, applied, after}
 use Rattle.entry_frames.specs.Formats.{Fits, spelling}
 use Rattle.entry_frames.specs.Records.{Record, record_fields, record_spellings}
-use Rattle.synced_log.specs.Journal.{HaveSpellings}
 use Rattle.synced_log.specs.Sketches.{Sketch, sketch_of, can_take, taken}
 use Rattle.std.specs.Prelude.{None}
-use Rattle.synced_log.specs.Walks.{StandsFirst, TakesFirst, TakesOne, SpellsAll, TakesRecords, TakesAll}
+use Rattle.synced_log.specs.Walks.{StandsFirst, TakesFirst, TakesOne, SpellsAll, TakesRecords}
 use Rattle.synced_log.proofs.Marks.{can_apply, takes_it, sketched}
 
 -- what the rest of a body, from a state on, says of the whole of it
@@ -18,9 +17,6 @@ pub record Going (group : Parameters) (d : Durable) (body : List ℕ) (state : S
   pub back : (records : List Record) → SpellsAll group now rest records → (whole : List Record) × SpellsAll group d body whole × (after d whole ≡ after now records)
   -- and the other way round
   pub on : (whole : List Record) → SpellsAll group d body whole → (records : List Record) × SpellsAll group now rest records
-
-pub started : (group : Parameters) (d : Durable) (body : List ℕ) (state : Sketch) → state ≡ sketch_of d → Going group d body state body
-started group d body state is = record { now = d; is = is; back = λ records s. (records, s, refl); on = λ whole s. (whole, s) }
 
 -- one record more in front
 in_front : (group : Parameters) (now : Durable) (rest tail : List ℕ) (r : Record) (records : List Record) → Fits (record_fields group.need) r → CanApply group now r

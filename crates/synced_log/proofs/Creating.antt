@@ -1,7 +1,7 @@
 -- What each step of creation leaves, whole or cut short.
-use Rattle.std.proofs.Common.{◌≡◌, ◌≢◌, ◌⊎◌, inl, inr, ⊎_elim, ℕ, ◌+◌, ◌-◌, ◌<◌, ◌≤◌, min, List, [], ◌∷◌, ◌++◌, length, get_or, take, drop, replicate, refl, sym, ap, ◌∙◌, subst, arith, append_assoc}
+use Rattle.std.proofs.Common.{◌≡◌, ◌≢◌, ◌⊎◌, inl, inr, ℕ, ◌+◌, ◌-◌, ◌≤◌, min, List, [], ◌∷◌, ◌++◌, length, get_or, take, drop, replicate, refl, sym, ap, ◌∙◌, subst, arith, append_assoc}
 use Rattle.std.proofs.lemmas.Bool.{cases_eq, cases_lt}
-use Rattle.std.proofs.lemmas.List.{append-nil, drop_all, get_or-take, length-append}
+use Rattle.std.proofs.lemmas.List.{append-nil, drop_all, get_or-take}
 use Rattle.craft_edge.specs.Disk.{written, Torn}
 use Rattle.craft_edge.proofs.DiskLaws.{length-written_some}
 use Rattle.synced_log.specs.declared.owner.Owner.{Owner}

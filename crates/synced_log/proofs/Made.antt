@@ -1,6 +1,6 @@
 -- Which calls were made.
-use Rattle.std.proofs.Common.{◌≡◌, Bool, true, false, List, [], ◌∷◌, ◌++◌, Result, Ok, Err, refl, sym, ap, ◌∙◌, append_assoc}
-use Rattle.std.specs.Prelude.{Option, is_err, IsErr}
+use Rattle.std.proofs.Common.{◌≡◌, true, false, List, [], ◌∷◌, ◌++◌, Result, Ok, Err, refl, sym, ap, ◌∙◌, append_assoc}
+use Rattle.std.specs.Prelude.{Option, is_err}
 use Rattle.craft_edge.specs.DiskCalls.{DiskHistory, DiskWork, after_call_of}
 use Rattle.synced_log.specs.Crashes.{after_calls, FailsIn, Makes}
 

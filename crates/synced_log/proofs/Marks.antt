@@ -1,9 +1,9 @@
 -- A sketch tells of a state what has to be known of it.
-use Rattle.std.proofs.Common.{◌≡◌, ◌≢◌, ◌⊎◌, inl, inr, ℕ, zero, suc, ◌+◌, ◌-◌, ◌<◌, ◌≤◌, Bool, true, false, not, ◌&&◌, ◌||◌, List, [], ◌∷◌, ◌++◌, length, get_or, take, set, refl, sym, ap, ◌∙◌, subst, arith}
+use Rattle.std.proofs.Common.{◌≡◌, ◌⊎◌, inl, inr, ℕ, zero, suc, ◌<◌, ◌≤◌, Bool, true, false, not, ◌&&◌, ◌||◌, List, [], ◌∷◌, ◌++◌, length, get_or, take, set, refl, ap, ◌∙◌, arith}
 use Rattle.std.specs.Prelude.{slice_get, Option, None, Some, is_some, nat_le, nat_lt, ◌==◌}
 use Rattle.std.proofs.lemmas.Bool.Decides.{nat_tests}
 use Rattle.std.proofs.lemmas.Bool.{eqb-true}
-use Rattle.craft_base.specs.Parameters.{Parameters, members_of}
+use Rattle.craft_base.specs.Parameters.{Parameters}
 use Rattle.craft_base.specs.declared.command.Entry.{Entry}
 use Rattle.craft_base.specs.declared.command.Form.{Form}
 use Rattle.craft_base.specs.declared.command.Form.TheVariants as forms
@@ -13,7 +13,7 @@ use Rattle.entry_frames.specs.Limits.{greatest, last_place}
 use Rattle.entry_frames.specs.Logs.{entry_at, term_at, term_of_entry}
 use Rattle.entry_frames.specs.Records.{Record, Term, Add, Cut, Whole, Commit}
 use Rattle.synced_log.specs.declared.state.Mark.{Mark}
-use Rattle.synced_log.specs.Sketches.{mark_of, marks_of, Sketch, sketch_of, is_voter, term_of_mark, mark_at, lacks_value, can_take_term, can_take_entry, is_uncommitted, can_take, whole_mark, make_whole, taken}
+use Rattle.synced_log.specs.Sketches.{mark_of, marks_of, sketch_of, is_voter, term_of_mark, mark_at, lacks_value, can_take_entry, is_uncommitted, can_take, whole_mark, make_whole, taken}
 
 -- ---- one mark changes
 

@@ -1,20 +1,15 @@
 -- A file that was read to its end is a journal, or it has that fault.
-use Rattle.std.proofs.Common.{◌≡◌, ◌⊎◌, inl, inr, ℕ, ◌+◌, ◌≤◌, Bool, true, false, not, ◌&&◌, eqb, List, [], ◌∷◌, ◌++◌, length, take, drop, refl, sym, ap, ◌∙◌, subst, arith, append_assoc, length-append, take-append-drop}
+use Rattle.std.proofs.Common.{◌≡◌, inl, inr, ℕ, ◌+◌, ◌≤◌, Bool, true, false, not, ◌&&◌, eqb, List, [], ◌∷◌, ◌++◌, length, drop, refl, sym, ap, ◌∙◌, subst, arith, append_assoc, length-append, take-append-drop}
 use Rattle.std.specs.Prelude.{Option, None, Some, IfSome}
 use Rattle.std.proofs.lemmas.Bool.{eqb-true}
-use Rattle.craft_edge.specs.Disk.{OnlySeen, Only}
-use Rattle.entry_frames.specs.Durable.{born}
+use Rattle.craft_edge.specs.Disk.{max_len}
 use Rattle.entry_frames.specs.Records.{Record}
-use Rattle.synced_log.specs.declared.fault.OpenFault.{OpenFault}
 use Rattle.synced_log.specs.declared.owner.Owner.{Owner}
 use Rattle.synced_log.specs.declared.place.Place.{Place}
-use Rattle.synced_log.specs.declared.walk.Ended.{Ended}
 use Rattle.synced_log.specs.declared.walk.Ended.TheVariants.{Closed, Faulty}
-use Rattle.synced_log.specs.Creation.{CreationLeaves}
-use Rattle.synced_log.specs.Journal.{IsOwner, group_of, header, open_groups, Placed, front_of, IsJournalTo, IsUnborn, IsBorn, HasHeader, NoHeader, IsFaulty, BadAt, IsFaultOf, Kept, Reads, IsOpened, StaysAs, closed_gate, after_groups}
-use Rattle.synced_log.specs.Sketches.{Sketch}
-use Rattle.synced_log.specs.Standing.{Opens, Stays, FaultsAs}
-use Rattle.synced_log.specs.Walks.{all_placed, WalksTo, WalksWhole, end_of}
+use Rattle.synced_log.specs.Journal.{IsOwner, group_of, header, open_groups, Placed, front_of, IsUnborn, HasHeader, BadAt, Kept, Reads, closed_gate}
+use Rattle.synced_log.specs.Standing.{Opens}
+use Rattle.synced_log.specs.Walks.{all_placed, WalksWhole}
 use Rattle.synced_log.proofs.Creating as creating
 
 module _ (o : Owner) (file : List ℕ) (places : List Place) (has : HasHeader file o) where
@@ -51,26 +46,13 @@ module _ (o : Owner) (file : List ℕ) (places : List Place) (has : HasHeader fi
 
 -- ---- where the disk tells what a read gives
 
--- a file that was born and read
-pub read_opens : (seen now : Option (List ℕ)) (file : List ℕ) (o : Owner) (gate : ℕ) (kept : Kept) → now ≡ seen → IfSome seen (λ f. file ≡ f) → IsBorn file → Reads file o gate kept → Opens seen now o gate kept
-read_opens None now file o gate kept same is is_born r = tt
-read_opens (Some f) None file o gate kept same is is_born r = absurd cc
-read_opens (Some f) (Some n) file o gate kept same is is_born r =
-    let n_is : n ≡ f = cc in
-    record {
-      groups = r.groups;
-      journal = subst (λ (l : List ℕ). IsJournalTo l gate o r.groups) (is ∙ sym n_is) r.journal;
-      kept_is = r.kept_is;
-      from = inr (subst IsBorn is is_born, n_is);
-    }
-
-pub read_faults : (seen : Option (List ℕ)) (file : List ℕ) (o : Owner) (fault : OpenFault) → IfSome seen (λ f. file ≡ f) → IsFaultOf file o fault → FaultsAs seen o fault
-read_faults None file o fault is f = tt
-read_faults (Some g) file o fault is f = subst (λ (l : List ℕ). IsFaultOf l o fault) is f
-
 -- a file that was created
 abbrev some_of : List ℕ → Option (List ℕ)
 some_of l = Some l
+
+short : (bytes : List ℕ) → IsUnborn bytes → length bytes ≤ max_len
+short bytes (inl few) = omega (arith, few)
+short bytes (inr whole) = omega (arith, whole.0)
 
 pub created_opens : (seen mid new : Option (List ℕ)) (file : List ℕ) (o : Owner) (kept : Kept) → IsOwner o → mid ≡ seen → IfSome seen (λ f. file ≡ f) → IsUnborn file
     → (mid ≡ Some file → new ≡ Some (header o ++ 0 ∷ [])) → kept ≡ record { group = group_of o; placed = [] } → Opens seen new o 32 kept
@@ -81,14 +63,9 @@ created_opens (Some f) mid new file o kept owner same is unborn makes kept_is =
       groups = [];
       journal = record { journal = creating.born o owner; gate_is = refl };
       kept_is = kept_is;
+      room = short f (subst IsUnborn is unborn);
       from = inl (subst IsUnborn is unborn, refl);
     })
-
-pub created_stays : (seen mid : Option (List ℕ)) (may_leave : List ℕ → Type 0) (file : List ℕ) (o : Owner) (image : List ℕ) → mid ≡ seen → IfSome seen (λ f. file ≡ f) → OnlySeen seen may_leave → IsUnborn file
-    → CreationLeaves (λ f. f ≡ file) mid may_leave o image → Stays o seen image
-created_stays None mid may_leave file o image same is only unborn leaves = tt
-created_stays (Some f) mid may_leave file o image same is only unborn leaves =
-    inr (subst IsUnborn is unborn, leaves f same (sym is) only)
 
 -- ---- owners
 

@@ -1,16 +1,15 @@
 -- A file is read in one way.
-use Rattle.std.proofs.Common.{◌≡◌, ◌≢◌, ◌⊎◌, inl, inr, ℕ, ◌+◌, ◌^◌, ◌<◌, ◌≤◌, List, [], ◌∷◌, ◌++◌, length, get_or, take, drop, Result, Ok, Err, refl, sym, ap, ◌∙◌, subst, arith, append_assoc, length-append}
+use Rattle.std.proofs.Common.{◌≡◌, ◌⊎◌, inl, inr, ℕ, ◌+◌, ◌^◌, ◌<◌, List, [], ◌∷◌, ◌++◌, length, get_or, take, drop, Result, Ok, refl, sym, ap, ◌∙◌, subst, arith, append_assoc, length-append}
 use Rattle.std.specs.Int.{w64, to_be_bytes}
-use Rattle.std.proofs.lemmas.List.{take_at}
 use Rattle.craft_base.specs.Parameters.{Parameters}
 use Rattle.entry_frames.specs.declared.fault.FrameFault.{FrameFault}
 use Rattle.entry_frames.specs.Durable.{Durable, born, after}
-use Rattle.entry_frames.specs.Formats.{Fits, Place, Taken, spelling, reading, front_of as front_place}
-use Rattle.entry_frames.specs.Records.{Record, record_fields, record_spellings}
+use Rattle.entry_frames.specs.Formats.{Fits, Taken, spelling, reading, front_of as front_place}
+use Rattle.entry_frames.specs.Records.{Record, record_fields}
 use Rattle.entry_frames.proofs.Formats.{front_reads_again}
 use Rattle.entry_frames.proofs.Numbers.{ok_is}
 use Rattle.synced_log.specs.declared.owner.Owner.{Owner}
-use Rattle.synced_log.specs.Journal.{IsOwner, header, group_of, HaveSpellings, IsGroupOf, AreGroups, open_group, open_groups, after_groups, body_of, front_of, EndsThere, IsJournal, HasHeader, NoHeader, StandsBehind, IsNoGate, IsFaulty, BadAt, closed_gate}
+use Rattle.synced_log.specs.Journal.{header, group_of, HaveSpellings, IsGroupOf, AreGroups, open_group, open_groups, after_groups, body_of, front_of, EndsThere, IsJournal, IsNoGate, closed_gate}
 use Rattle.synced_log.specs.Laws.{OneOwner, OneJournal, NoFault, OneFault}
 use Rattle.synced_log.specs.Walks.{body_fields}
 use Rattle.synced_log.proofs.Behind.{only_body}

@@ -1,14 +1,13 @@
 -- The groups of a file, one more at a time.
-use Rattle.std.proofs.Common.{◌≡◌, ◌≢◌, ℕ, ◌+◌, ◌-◌, ◌<◌, ◌≤◌, List, [], ◌∷◌, ◌++◌, length, get_or, take, drop, refl, sym, ap, ◌∙◌, subst, arith, append_assoc}
+use Rattle.std.proofs.Common.{◌≡◌, ℕ, ◌+◌, ◌<◌, ◌≤◌, List, [], ◌∷◌, ◌++◌, length, get_or, take, drop, refl, sym, ap, ◌∙◌, subst, arith, append_assoc}
 use Rattle.std.specs.Int.{w64, to_be_bytes}
-use Rattle.std.proofs.lemmas.List.{length-append, drop_more, drop_all, drop-drop, length-drop, append-nil}
+use Rattle.std.proofs.lemmas.List.{length-append, drop_more, drop-drop, length-drop, append-nil}
 use Rattle.craft_base.specs.Parameters.{Parameters}
 use Rattle.entry_frames.specs.Durable.{Durable, born, after}
 use Rattle.entry_frames.specs.Records.{Record}
 use Rattle.synced_log.specs.declared.place.Place.{Place}
-use Rattle.synced_log.specs.declared.walk.Ended.{Ended}
-use Rattle.synced_log.specs.declared.walk.Ended.TheVariants.{Closed, Faulty}
-use Rattle.synced_log.specs.Journal.{IsGroupOf, AreGroups, StandsBehind, body_of, open_group, open_groups, after_groups, Placed, placed_from, EndsThere, IsNoGate}
+use Rattle.synced_log.specs.declared.walk.Ended.TheVariants.{Faulty}
+use Rattle.synced_log.specs.Journal.{IsGroupOf, AreGroups, body_of, open_group, open_groups, after_groups, Placed, placed_from, IsNoGate}
 use Rattle.synced_log.specs.Sketches.{Sketch, sketch_of}
 use Rattle.synced_log.specs.Walks.{TakesGroup, placed_in, all_placed, AllInside, WalksTo, WalksWhole}
 use Rattle.synced_log.proofs.Behind.{NoneBehind}
@@ -54,9 +53,6 @@ inside-push file (p ∷ places) place all le = (all.0, inside-push file places p
 
 -- ---- the walk
 
-pub walk_begins : (group : Parameters) (file : List ℕ) → 32 ≤ length file → WalksTo group file [] 32 (sketch_of born)
-walk_begins group file long = record { groups = []; groups_are = tt; is = refl; at_is = refl; within = long; places_are = refl; inside = tt; state_is = refl }
-
 gate_behind : (file : List ℕ) (at : ℕ) → at < length file → drop at file ≡ get_or file at 0 ∷ drop (at + 1) file
 gate_behind file at lt = drop_more file at 0 lt
 
@@ -87,21 +83,10 @@ walk_goes_on group file places at len state new w lt is_open t =
       state_is = t.leaves ∙ ap sketch_of (sym (after_groups-push born w.groups t.records));
     }
 
-pub walk_closes : (group : Parameters) (file : List ℕ) (places : List Place) (at : ℕ) (state : Sketch) → WalksTo group file places at state → at < length file → get_or file at 0 ≢ 1
-    → WalksWhole group file places (Closed at)
-walk_closes group file places at state w lt shut = record { state = state; walk = w; ends = record { gate = get_or file at 0; rest = drop (at + 1) file; is = gate_behind file at lt; closed = shut } }
-
 pub walk_fails : (group : Parameters) (file : List ℕ) (places : List Place) (at : ℕ) (state : Sketch) → (w : WalksTo group file places at state) → at < length file → get_or file at 0 ≡ 1
     → NoneBehind group (after_groups born w.groups) (drop (at + 1) file) → WalksWhole group file places (Faulty at)
 walk_fails group file places at state w lt is_open none = record {
   state = state;
   walk = w;
   ends = subst (IsNoGate group (after_groups born w.groups)) (sym (gate_behind file at lt ∙ ap (λ (g : ℕ). g ∷ drop (at + 1) file) is_open)) (refl, none);
-}
-
-pub walk_runs_out : (group : Parameters) (file : List ℕ) (places : List Place) (at : ℕ) (state : Sketch) → WalksTo group file places at state → length file ≤ at → WalksWhole group file places (Faulty at)
-walk_runs_out group file places at state w le = record {
-  state = state;
-  walk = w;
-  ends = subst (IsNoGate group (after_groups born w.groups)) (sym (drop_all at file le)) tt;
 }

@@ -2,6 +2,7 @@
 use Rattle.std.specs.Prelude.{◌≡◌, ◌≢◌, ◌⊎◌, ℕ, ◌+◌, ◌*◌, ◌<◌, ◌≤◌, List, [], ◌∷◌, ◌++◌, length, take, replicate, get_or}
 use Rattle.std.specs.Int.{w64, to_be_bytes}
 use Rattle.craft_base.specs.Parameters.{Parameters}
+use Rattle.craft_edge.specs.Disk.{max_len}
 use Rattle.synced_log.specs.declared.fault.OpenFault.{OpenFault}
 use Rattle.synced_log.specs.declared.fault.OpenFault.TheVariants.{DiskFault, BadJournal, WrongOwner, OutOfMemory}
 use Rattle.synced_log.specs.declared.owner.Owner.{Owner}
@@ -204,6 +205,7 @@ pub record IsOpened (old new : List ℕ) (wanted : Owner) (gate : ℕ) (kept : K
   pub groups : List (List Record)
   pub journal : IsJournalTo new gate wanted groups
   pub kept_is : kept ≡ record { group = group_of wanted; placed = placed_from wanted.k 32 groups }
+  pub room : length old ≤ max_len
   pub from : (IsUnborn old × (groups ≡ [])) ⊎ (IsBorn old × (new ≡ old))
 
 -- the file as it was, or where it was never born a file that isn't born yet or has no groups

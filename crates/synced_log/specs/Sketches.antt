@@ -1,5 +1,5 @@
 -- What is kept of a state while a file is read: enough to tell where a record can be applied.
-use Rattle.std.specs.Prelude.{◌≡◌, ℕ, zero, suc, ◌+◌, ◌-◌, Bool, true, false, not, ◌&&◌, ◌||◌, ◌==◌, List, [], ◌∷◌, ◌++◌, length, take, nat_le, nat_lt, get_or, None, Some, Option, is_some, slice_get}
+use Rattle.std.specs.Prelude.{ℕ, zero, suc, ◌-◌, Bool, true, false, not, ◌&&◌, ◌||◌, ◌==◌, List, [], ◌∷◌, ◌++◌, length, take, nat_le, nat_lt, None, Some, Option, is_some, slice_get}
 use Rattle.craft_base.specs.Parameters.{Parameters, members_of}
 use Rattle.craft_base.specs.declared.command.Entry.{Entry}
 use Rattle.entry_frames.specs.Durable.{Durable}

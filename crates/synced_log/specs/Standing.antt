@@ -1,5 +1,5 @@
 -- A journal that is open.
-use Rattle.std.specs.Prelude.{◌≡◌, ℕ, ◌+◌, ◌≤◌, Bool, List, [], ◌∷◌, Option, None, Some, ⊤}
+use Rattle.std.specs.Prelude.{ℕ, ◌+◌, ◌≤◌, Bool, List, [], ◌∷◌, Option, None, Some, ⊤}
 use Rattle.craft_edge.specs.Disk.{WhereTold, OnlySeen, max_len}
 use Rattle.craft_edge.specs.DiskCalls.{DiskWork, WriteAt, Sync}
 use Rattle.entry_frames.specs.Records.{group_bytes}

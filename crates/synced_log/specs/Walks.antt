@@ -1,5 +1,5 @@
 -- What the steps of reading a file tell.
-use Rattle.std.specs.Prelude.{◌≡◌, ℕ, ◌+◌, ◌-◌, ◌^◌, ◌<◌, ◌≤◌, Bool, true, false, IsTrue, List, [], ◌∷◌, ◌++◌, length, take, drop, map, None, Some, Option}
+use Rattle.std.specs.Prelude.{◌≡◌, ℕ, ◌+◌, ◌-◌, ◌^◌, ◌<◌, ◌≤◌, Bool, true, false, List, [], ◌∷◌, ◌++◌, length, take, drop, None, Some, Option}
 use Rattle.craft_base.specs.Parameters.{Parameters}
 use Rattle.entry_frames.specs.Durable.{Durable, born, after, CanApplyAll}
 use Rattle.entry_frames.specs.Formats.{Format, Value, Number, Bytes, U64, within, Fits, spelling}
@@ -7,7 +7,7 @@ use Rattle.entry_frames.specs.Records.{Record, record_fields, record_spellings}
 use Rattle.synced_log.specs.declared.place.Place.{Place}
 use Rattle.synced_log.specs.declared.walk.Ended.{Ended}
 use Rattle.synced_log.specs.declared.walk.Ended.TheVariants.{Closed, Faulty}
-use Rattle.synced_log.specs.Journal.{HaveSpellings, IsGroupOf, AreGroups, StandsBehind, body_of, open_groups, after_groups, Placed, placed_from, EndsThere, IsNoGate}
+use Rattle.synced_log.specs.Journal.{HaveSpellings, AreGroups, StandsBehind, body_of, open_groups, after_groups, Placed, placed_from, EndsThere, IsNoGate}
 use Rattle.synced_log.specs.Sketches.{Sketch, sketch_of, can_take, taken}
 
 -- ---- one record

@@ -1,4 +1,3 @@
-use Rattle.std.proofs.Common.{◌≡◌}
 use Rattle.synced_log.proofs.Answering.{on_ok}
 use Rattle.synced_log.proofs.create.create.Goals as goal
 

@@ -1,9 +1,8 @@
-use Rattle.std.proofs.Common.{◌≡◌, ◌⊎◌, inl, ℕ, List, [], ◌∷◌, ◌++◌, take, drop, get_or, sym, ap, ◌∙◌, subst}
+use Rattle.std.proofs.Common.{◌≡◌, inl, ℕ, List, [], ◌∷◌, take, drop, get_or, ap, ◌∙◌, subst}
 use Rattle.std.specs.Prelude.{Option, Some, IsTrue, option_map}
 use Rattle.craft_edge.specs.Disk.{written, Torn, Only, OnlySeen}
 use Rattle.synced_log.specs.Crashes.{TornFrom}
 use Rattle.synced_log.specs.Creation.{CreationLeaves, IsBlank}
-use Rattle.synced_log.specs.Journal.{header}
 use Rattle.synced_log.proofs.Answering.{on_ok}
 use Rattle.synced_log.proofs.Creating.{tail_of, tail_torn, tail_written, first_torn, first_written}
 use Rattle.synced_log.proofs.Watching.{leaves_less, then_leaves}

@@ -1,4 +1,4 @@
-use Rattle.std.proofs.Common.{◌≡◌, ℕ, List, [], sym, ap, ◌∙◌, subst}
+use Rattle.std.proofs.Common.{ℕ, List, [], sym, ap, ◌∙◌, subst}
 use Rattle.std.specs.Prelude.{Option, Some}
 use Rattle.craft_base.specs.Parameters.{Parameters}
 use Rattle.synced_log.specs.declared.place.Place.{Place}

@@ -1,4 +1,4 @@
-use Rattle.std.proofs.Common.{◌≡◌, inl, ℕ, List, refl, sym, ap, ◌∙◌, subst}
+use Rattle.std.proofs.Common.{inl, ℕ, List, refl, sym, ap, ◌∙◌, subst}
 use Rattle.craft_base.specs.Parameters.{Parameters}
 use Rattle.synced_log.specs.Journal.{NoHeader, HasHeader, group_of, Placed, Kept}
 use Rattle.synced_log.specs.Walks.{all_placed, WalksWhole}

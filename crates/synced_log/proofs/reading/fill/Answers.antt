@@ -1,4 +1,4 @@
-use Rattle.std.proofs.Common.{◌≡◌, ◌+◌, ◌-◌, ◌≤◌, length, take, drop, sym, ap, ◌∙◌, subst, arith, length-take, length-drop}
+use Rattle.std.proofs.Common.{◌≡◌, ◌-◌, length, drop, sym, ◌∙◌, subst, arith, length-take, length-drop}
 use Rattle.std.specs.Prelude.{IsTrue}
 use Rattle.synced_log.proofs.Filling.{filled_more, length_put}
 use Rattle.synced_log.proofs.Watching.{goes_on}

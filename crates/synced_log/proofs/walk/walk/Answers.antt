@@ -1,4 +1,4 @@
-use Rattle.std.proofs.Common.{◌≡◌, ◌+◌, ◌<◌, ◌∷◌, [], ◌++◌, List, ℕ, length, sym, subst, arith}
+use Rattle.std.proofs.Common.{◌+◌, List, ℕ, sym, subst}
 use Rattle.std.proofs.lemmas.List.{take_rest}
 use Rattle.entry_frames.specs.Durable.{born}
 use Rattle.synced_log.specs.Journal.{after_groups}

@@ -1,4 +1,4 @@
-use Rattle.std.proofs.Common.{◌≡◌, ◌+◌, ◌<◌, ◌≤◌, ℕ, List, sym, ap, subst, ◌∙◌, length, take, drop, arith}
+use Rattle.std.proofs.Common.{◌+◌, ◌<◌, ◌≤◌, ℕ, List, sym, ap, subst, ◌∙◌, length, take, drop, arith}
 use Rattle.std.specs.Prelude.{Option, Some, slice_get}
 use Rattle.synced_log.specs.Journal.{Kept, Placed}
 use Rattle.synced_log.proofs.Places.{length-all_placed, placed_of, inside_of}

@@ -1,4 +1,4 @@
-use Rattle.std.proofs.Common.{◌≡◌, ap, length, arith}
+use Rattle.std.proofs.Common.{ap, length, arith}
 use Rattle.synced_log.specs.Journal.{Kept}
 use Rattle.synced_log.proofs.Places.{length-all_placed}
 use Rattle.synced_log.proofs.groups.Groups.count.Goals as goal
