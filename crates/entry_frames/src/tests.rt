@@ -6,30 +6,25 @@ ghost use Rattle.entry_frames.specs.Views.{IsNeed};
 
 use super::*;
 use crate::kept_log::KeptLog;
-use craft_base::{Form, Op};
+use craft_base::{Entry, Form};
+use rand_xoshiro::SplitMix64;
+use rand_xoshiro::rand_core::{Rng, SeedableRng};
 use std::alloc::{AllocError, Global};
 use std::process::Abort;
 use std::test::Fail;
 
-/// The bytes of a text of hexadecimal digits and spaces.
-fn bytes_of(alloc: Global, text: &str) -> Result<Vec<u8>, AllocError> {
-    let mut bytes = Vec::new(alloc);
-    let mut high = None;
-    for c in text.bytes() {
-        let digit = match c {
-            b'0'..=b'9' => c - b'0',
-            b'a'..=b'f' => c - b'a' + 10,
-            _ => continue,
-        };
-        match high {
-            None => high = Some(digit),
-            Some(h) => {
-                bytes.push((h << 4) | digit)?;
-                high = None;
-            }
-        }
+/// A text without its blanks.
+fn without_blanks(alloc: Global, text: &str) -> Result<String, AllocError> {
+    let mut packed = String::new(alloc);
+    for word in text.split_whitespace() {
+        packed.push_str(word)?;
     }
-    Ok(bytes)
+    Ok(packed)
+}
+
+/// The bytes of a text of hexadecimal digits, between which blanks may stand.
+fn bytes_of(alloc: Global, text: &str) -> Result<Vec<u8>, Fail> {
+    Ok(hex::decode(alloc, without_blanks(alloc, text)?)?)
 }
 
 /// Some bytes and then others.
@@ -39,41 +34,102 @@ fn joined(alloc: Global, front: &[u8], rest: &[u8]) -> Result<Vec<u8>, AllocErro
     Ok(bytes)
 }
 
-// ---- entries
+// ---- what isn't read
 
-/// The parts of an entry that a test wants.
-#[derive(Drop)]
-struct Wanted<'a> {
-    term: u64,
-    client: u64,
-    seq: u64,
-    op: Op,
-    key: &'a [u8],
-    vlen: u32,
-    is_whole: bool,
-    bytes: &'a [u8],
+/// What bytes are read as.
+#[derive(Clone, Copy)]
+enum ReadAs {
+    Entry,
+    Record,
 }
 
-/// Why the bytes begin with no entry.
-fn entry_fault(k: u8, bytes: &[u8]) -> Option<FrameFault>
+/// Why the bytes begin with no entry, or with no record.
+fn fault_of(what: ReadAs, k: u8, bytes: &[u8]) -> Option<FrameFault>
     requires { IsNeed k }
 {
-    match EntryView::read(k, bytes) {
-        Ok(_) => None,
-        Err(fault) => Some(fault),
+    match what {
+        ReadAs::Entry => EntryView::read(k, bytes).err(),
+        ReadAs::Record => RecordView::read(k, bytes).err(),
     }
 }
 
-/// A view shows these parts.
-fn shows(rt: &impl Abort, view: &EntryView<'_>, want: &Wanted<'_>) {
-    assert_eq!(rt; view.term(), want.term);
-    assert_eq!(rt; view.client(), want.client);
-    assert_eq!(rt; view.seq(), want.seq);
-    assert_eq!(rt; view.op(), want.op);
-    assert_eq!(rt; view.key(), want.key);
-    assert_eq!(rt; view.vlen(), want.vlen);
-    assert_eq!(rt; view.is_whole(), want.is_whole);
-    assert_eq!(rt; view.bytes(), want.bytes);
+/// Whichever of the bytes are left out at the end, the others end too soon.
+fn is_short_before_its_end(rt: &impl Abort, what: ReadAs, k: u8, bytes: &[u8])
+    requires { IsNeed k }
+{
+    for end in 0..bytes.len() {
+        assert_eq!(rt;
+            fault_of(what, k, &bytes[..end]),
+            Some(FrameFault::Short),
+            "{end} bytes of {bytes:?}"
+        );
+    }
+}
+
+/// The bytes of the text end behind a field that begins at that offset and is out of range.
+fn is_bad(rt: &impl Abort, alloc: Global, what: ReadAs, text: &str, at: usize) -> Result<(), Fail> {
+    let bytes = bytes_of(alloc, text)?;
+    is_short_before_its_end(rt, what, 2, &bytes);
+    let longer = joined(alloc, &bytes, &[0; 40])?;
+    for frame in [bytes.as_slice(), &longer] {
+        assert_eq!(rt;
+            fault_of(what, 2, frame),
+            Some(FrameFault::Bad(at)),
+            "at {text}"
+        );
+    }
+    Ok(())
+}
+
+/// Each text of these rows ends behind a field that begins at the row's offset and is out of range; how many texts they are.
+fn are_bad(
+    rt: &impl Abort,
+    alloc: Global,
+    what: ReadAs,
+    rows: &[(usize, &str)],
+) -> Result<u64, Fail> {
+    let mut count = 0u64;
+    for (at, texts) in rows {
+        for text in texts.split(',') {
+            is_bad(rt, alloc, what, text, *at)?;
+            count = count.wrapping_add(1);
+        }
+    }
+    Ok(count)
+}
+
+// ---- entries
+
+/// A view of an entry as text: term, client, its number, operation, key, length of the value, form, what is held.
+fn view_text(alloc: Global, view: &EntryView<'_>) -> Result<String, AllocError> {
+    let form = if view.is_whole() { "whole" } else { "part" };
+    format!(in alloc;
+        "{} {} {} {:?} {:?} {} {form} {:?}",
+        view.term(),
+        view.client(),
+        view.seq(),
+        view.op(),
+        view.key(),
+        view.vlen(),
+        view.bytes()
+    )
+}
+
+/// An entry as text, in the same order.
+fn entry_text(alloc: Global, entry: &Entry) -> Result<String, AllocError> {
+    let (form, held) = match &entry.form {
+        Form::Whole(held) => ("whole", held.as_bytes()),
+        Form::Part(held) => ("part", held.as_bytes()),
+    };
+    format!(in alloc;
+        "{} {} {} {:?} {:?} {} {form} {held:?}",
+        entry.term,
+        entry.head.client,
+        entry.head.seq,
+        entry.head.op,
+        entry.head.key.as_bytes(),
+        entry.head.vlen
+    )
 }
 
 /// An entry is written as these bytes, behind what stood there.
@@ -90,181 +146,97 @@ fn entry_writes(
     Ok(())
 }
 
-/// The bytes are read as an entry of these parts, whatever follows them, and each of its views is written as they are.
-fn is_entry(
+/// A view shows what the text says, and is written as these bytes.
+fn is_shown(
     rt: &impl Abort,
     alloc: Global,
-    k: u8,
+    view: &EntryView<'_>,
     bytes: &[u8],
-    want: &Wanted<'_>,
-) -> Result<(), Fail>
+    want: &str,
+) -> Result<(), Fail> {
+    assert_eq!(rt; view_text(alloc, view)?.as_str(), want);
+    entry_writes(rt, alloc, view, bytes)
+}
+
+/// The entry made of a view is what the text says, and so is the view that it lends.
+fn is_made(
+    rt: &impl Abort,
+    alloc: Global,
+    view: &EntryView<'_>,
+    bytes: &[u8],
+    want: &str,
+) -> Result<(), Fail> {
+    let k = view.need();
+    let entry = view.to_entry(alloc)?;
+    assert_eq!(rt; entry_text(alloc, &entry)?.as_str(), want);
+    let again = EntryView::of(k, &entry);
+    assert_eq!(rt; again.need(), k);
+    is_shown(rt, alloc, &again, bytes, want)
+}
+
+/// The bytes are read as the entry of the text, whatever follows them, and each of its views is written as they are.
+fn is_entry(rt: &impl Abort, alloc: Global, k: u8, bytes: &[u8], want: &str) -> Result<(), Fail>
     requires { IsNeed k }
 {
-    for end in 0..bytes.len() {
-        assert_eq!(rt;
-            entry_fault(k, &bytes[..end]),
-            Some(FrameFault::Short),
-            "{end} bytes"
-        );
-    }
+    is_short_before_its_end(rt, ReadAs::Entry, k, bytes);
     let longer = joined(alloc, bytes, &[0xff, 0x01])?;
     for frame in [bytes, &longer] {
         let (view, len) = EntryView::read(k, frame)?;
         assert_eq!(rt; len, bytes.len());
         assert_eq!(rt; view.need(), k);
-        shows(rt, &view, want);
-        entry_writes(rt, alloc, &view, bytes)?;
-
-        let entry = view.to_entry(alloc)?;
-        assert_eq!(rt; entry.term, want.term);
-        assert_eq!(rt; entry.head.client, want.client);
-        assert_eq!(rt; entry.head.seq, want.seq);
-        assert_eq!(rt; entry.head.op, want.op);
-        assert_eq!(rt; entry.head.key.as_bytes(), want.key);
-        assert_eq!(rt; entry.head.vlen, want.vlen);
-        match &entry.form {
-            Form::Whole(held) => {
-                assert!(rt; want.is_whole);
-                assert_eq!(rt; held.as_bytes(), want.bytes);
-            }
-            Form::Part(held) => {
-                assert!(rt; !want.is_whole);
-                assert_eq!(rt; held.as_bytes(), want.bytes);
-            }
-        }
-
-        let again = EntryView::of(k, &entry);
-        assert_eq!(rt; again.need(), k);
-        shows(rt, &again, want);
-        entry_writes(rt, alloc, &again, bytes)?;
+        is_shown(rt, alloc, &view, bytes, want)?;
+        is_made(rt, alloc, &view, bytes, want)?;
     }
     Ok(())
 }
 
-// By hand: tag, operation, term, client, number, the version expected, length of the key, key, length of the value, bytes.
+/// The bytes of entries, and each entry as text.
+///
+/// By hand: tag, operation, term, client, number, the version expected, length of the key, key, length of the value, bytes.
+/// The greatest number is 2^62, 4611686018427387904.
+const ENTRIES: [(&str, &str); 9] = [
+    (
+        "01 00 0000000000000001 0000000000000000 0000000000000000 00",
+        "1 0 0 Noop [] 0 whole []",
+    ),
+    (
+        "01 01 0000000000000002 0000000000000003 0000000000000004 01 61 00000000",
+        "2 3 4 Put [97] 0 whole []",
+    ),
+    (
+        "01 01 4000000000000000 4000000000000000 4000000000000000 02 6b79 00000003 ff007f",
+        "4611686018427387904 4611686018427387904 4611686018427387904 Put [107, 121] 3 whole [255, 0, 127]",
+    ),
+    (
+        "01 02 0000000000000102 0000000000000007 0000000000000008 0000000000000005 01 6b 00000001 76",
+        "258 7 8 PutIf(5) [107] 1 whole [118]",
+    ),
+    (
+        "01 02 0000000000000001 0000000000000001 0000000000000001 4000000000000000 01 6b 00000000",
+        "1 1 1 PutIf(4611686018427387904) [107] 0 whole []",
+    ),
+    (
+        "01 03 0000000000000009 000000000000000a 000000000000000b 01 00",
+        "9 10 11 Del [0] 0 whole []",
+    ),
+    (
+        "01 04 0000000000000001 0000000000000001 0123456789abcdef 03 676574",
+        "1 1 81985529216486895 Get [103, 101, 116] 0 whole []",
+    ),
+    (
+        "02 01 0000000000000001 0000000000000001 0000000000000001 01 6b 00000002 03",
+        "1 1 1 Put [107] 2 part [3]",
+    ),
+    (
+        "02 02 0000000000000001 0000000000000001 0000000000000001 0000000000000000 01 6b 00000003 aabb",
+        "1 1 1 PutIf(0) [107] 3 part [170, 187]",
+    ),
+];
+
 #[test]
 fn entries_are_written_as_by_hand(rt: HostRuntime) -> Result<(), Fail> {
     let alloc = rt.alloc();
-    let cases: [(&str, Wanted<'_>); 9] = [
-        (
-            "01 00 0000000000000001 0000000000000000 0000000000000000 00",
-            Wanted {
-                term: 1,
-                client: 0,
-                seq: 0,
-                op: Op::Noop,
-                key: b"",
-                vlen: 0,
-                is_whole: true,
-                bytes: b"",
-            },
-        ),
-        (
-            "01 01 0000000000000002 0000000000000003 0000000000000004 01 61 00000000",
-            Wanted {
-                term: 2,
-                client: 3,
-                seq: 4,
-                op: Op::Put,
-                key: b"a",
-                vlen: 0,
-                is_whole: true,
-                bytes: b"",
-            },
-        ),
-        (
-            "01 01 4000000000000000 4000000000000000 4000000000000000 02 6b79 00000003 ff007f",
-            Wanted {
-                term: 1 << 62,
-                client: 1 << 62,
-                seq: 1 << 62,
-                op: Op::Put,
-                key: b"ky",
-                vlen: 3,
-                is_whole: true,
-                bytes: &[0xff, 0, 0x7f],
-            },
-        ),
-        (
-            "01 02 0000000000000102 0000000000000007 0000000000000008 0000000000000005 01 6b 00000001 76",
-            Wanted {
-                term: 0x102,
-                client: 7,
-                seq: 8,
-                op: Op::PutIf(5),
-                key: b"k",
-                vlen: 1,
-                is_whole: true,
-                bytes: b"v",
-            },
-        ),
-        (
-            "01 02 0000000000000001 0000000000000001 0000000000000001 4000000000000000 01 6b 00000000",
-            Wanted {
-                term: 1,
-                client: 1,
-                seq: 1,
-                op: Op::PutIf(1 << 62),
-                key: b"k",
-                vlen: 0,
-                is_whole: true,
-                bytes: b"",
-            },
-        ),
-        (
-            "01 03 0000000000000009 000000000000000a 000000000000000b 01 00",
-            Wanted {
-                term: 9,
-                client: 10,
-                seq: 11,
-                op: Op::Del,
-                key: &[0],
-                vlen: 0,
-                is_whole: true,
-                bytes: b"",
-            },
-        ),
-        (
-            "01 04 0000000000000001 0000000000000001 0123456789abcdef 03 676574",
-            Wanted {
-                term: 1,
-                client: 1,
-                seq: 0x0123_4567_89ab_cdef,
-                op: Op::Get,
-                key: b"get",
-                vlen: 0,
-                is_whole: true,
-                bytes: b"",
-            },
-        ),
-        (
-            "02 01 0000000000000001 0000000000000001 0000000000000001 01 6b 00000002 03",
-            Wanted {
-                term: 1,
-                client: 1,
-                seq: 1,
-                op: Op::Put,
-                key: b"k",
-                vlen: 2,
-                is_whole: false,
-                bytes: &[3],
-            },
-        ),
-        (
-            "02 02 0000000000000001 0000000000000001 0000000000000001 0000000000000000 01 6b 00000003 aabb",
-            Wanted {
-                term: 1,
-                client: 1,
-                seq: 1,
-                op: Op::PutIf(0),
-                key: b"k",
-                vlen: 3,
-                is_whole: false,
-                bytes: &[0xaa, 0xbb],
-            },
-        ),
-    ];
-    for (text, want) in &cases {
+    for (text, want) in ENTRIES {
         let bytes = bytes_of(alloc, text)?;
         is_entry(&rt, alloc, 2, &bytes, want)?;
     }
@@ -284,17 +256,10 @@ fn is_longest(rt: &impl Abort, alloc: Global, k: u8, tag: Tag, held: &[u8]) -> R
     bytes.extend_from_slice(&key)?;
     bytes.extend_from_slice(&[0, 0, 0x80, 0])?;
     bytes.extend_from_slice(held)?;
-    let want = Wanted {
-        term: 1 << 62,
-        client: 1 << 62,
-        seq: 1 << 62,
-        op: Op::Put,
-        key: &key,
-        vlen: 32_768,
-        is_whole: tag == Tag::Whole,
-        bytes: held,
-    };
-    is_entry(rt, alloc, k, &bytes, &want)
+    let number = 1u64 << 62;
+    let form = if tag == Tag::Whole { "whole" } else { "part" };
+    let want = format!(in alloc; "{number} {number} {number} Put {key:?} 32768 {form} {held:?}")?;
+    is_entry(rt, alloc, k, &bytes, want.as_str())
 }
 
 // Each number of fragments that rebuild a value, and how long a fragment then is.
@@ -320,91 +285,62 @@ fn the_longest_entries_are_read(rt: HostRuntime) -> Result<(), Fail> {
     Ok(())
 }
 
-// Each text ends behind the field that is out of range.
+/// Bytes that end behind a field out of range, by the offset at which that field begins.
+///
+/// By hand: a text ends with that field, and the fields before it are within their ranges.
+const BAD_FIELDS: [(usize, &str); 9] = [
+    // the tag
+    (0, "00, 03, ff"),
+    // the operation
+    (1, "01 05, 02 ff, 02 00, 02 03, 02 04"),
+    // the term
+    (2, "01 01 0000000000000000, 01 00 4000000000000001"),
+    // the client
+    (
+        10,
+        "01 01 0000000000000001 0000000000000000,
+        01 04 0000000000000001 4000000000000001,
+        01 00 0000000000000001 0000000000000001",
+    ),
+    // the client's number
+    (
+        18,
+        "01 01 0000000000000001 0000000000000001 0000000000000000,
+        01 03 0000000000000001 0000000000000001 4000000000000001,
+        01 00 0000000000000001 0000000000000000 0000000000000001",
+    ),
+    // the version expected, or else the length of the key
+    (
+        26,
+        "01 02 0000000000000001 0000000000000001 0000000000000001 4000000000000001,
+        02 02 0000000000000001 0000000000000001 0000000000000001 ffffffffffffffff,
+        01 01 0000000000000001 0000000000000001 0000000000000001 00,
+        01 00 0000000000000001 0000000000000000 0000000000000000 01",
+    ),
+    // the length of the value behind a key of one byte
+    (
+        28,
+        "01 01 0000000000000001 0000000000000001 0000000000000001 01 61 00008001,
+        02 01 0000000000000001 0000000000000001 0000000000000001 01 61 00008001,
+        02 01 0000000000000001 0000000000000001 0000000000000001 01 61 00000000",
+    ),
+    // the length of the key behind the version expected
+    (
+        34,
+        "01 02 0000000000000001 0000000000000001 0000000000000001 4000000000000000 00",
+    ),
+    // the length of the value behind the version expected and a key of three bytes
+    (
+        38,
+        "02 02 0000000000000001 0000000000000001 0000000000000001 0000000000000000 03 616263 00000000",
+    ),
+];
+
 #[test]
 fn a_bad_field_is_told_where_it_begins(rt: HostRuntime) -> Result<(), Fail> {
     let alloc = rt.alloc();
-    let cases = [
-        ("00", 0),
-        ("03", 0),
-        ("ff", 0),
-        ("01 05", 1),
-        ("02 ff", 1),
-        ("02 00", 1),
-        ("02 03", 1),
-        ("02 04", 1),
-        ("01 01 0000000000000000", 2),
-        ("01 00 4000000000000001", 2),
-        ("01 01 0000000000000001 0000000000000000", 10),
-        ("01 04 0000000000000001 4000000000000001", 10),
-        ("01 00 0000000000000001 0000000000000001", 10),
-        (
-            "01 01 0000000000000001 0000000000000001 0000000000000000",
-            18,
-        ),
-        (
-            "01 03 0000000000000001 0000000000000001 4000000000000001",
-            18,
-        ),
-        (
-            "01 00 0000000000000001 0000000000000000 0000000000000001",
-            18,
-        ),
-        (
-            "01 02 0000000000000001 0000000000000001 0000000000000001 4000000000000001",
-            26,
-        ),
-        (
-            "02 02 0000000000000001 0000000000000001 0000000000000001 ffffffffffffffff",
-            26,
-        ),
-        (
-            "01 01 0000000000000001 0000000000000001 0000000000000001 00",
-            26,
-        ),
-        (
-            "01 00 0000000000000001 0000000000000000 0000000000000000 01",
-            26,
-        ),
-        (
-            "01 02 0000000000000001 0000000000000001 0000000000000001 4000000000000000 00",
-            34,
-        ),
-        (
-            "01 01 0000000000000001 0000000000000001 0000000000000001 01 61 00008001",
-            28,
-        ),
-        (
-            "02 01 0000000000000001 0000000000000001 0000000000000001 01 61 00008001",
-            28,
-        ),
-        (
-            "02 01 0000000000000001 0000000000000001 0000000000000001 01 61 00000000",
-            28,
-        ),
-        (
-            "02 02 0000000000000001 0000000000000001 0000000000000001 0000000000000000 03 616263 00000000",
-            38,
-        ),
-    ];
-    for (text, at) in cases {
-        let bytes = bytes_of(alloc, text)?;
-        for end in 0..bytes.len() {
-            assert_eq!(rt;
-                entry_fault(2, &bytes[..end]),
-                Some(FrameFault::Short),
-                "{end} bytes of {text}"
-            );
-        }
-        let longer = joined(alloc, &bytes, &[0; 40])?;
-        for frame in [bytes.as_slice(), &longer] {
-            assert_eq!(rt;
-                entry_fault(2, frame),
-                Some(FrameFault::Bad(at)),
-                "at {text}"
-            );
-        }
-    }
+    let count = are_bad(&rt, alloc, ReadAs::Entry, &BAD_FIELDS)?;
+    assert_eq!(rt; count, 25);
     Ok(())
 }
 
@@ -456,24 +392,14 @@ fn a_term_outside_is_told_where_the_entry_begins(rt: HostRuntime) -> Result<(), 
 
 // ---- records
 
-/// Why the bytes begin with no record.
-fn record_fault(k: u8, bytes: &[u8]) -> Option<FrameFault>
-    requires { IsNeed k }
-{
-    match RecordView::read(k, bytes) {
-        Ok(_) => None,
-        Err(fault) => Some(fault),
-    }
-}
-
-/// The number of a record's kind, its term or its index or its entry's term, its vote, and its value or its entry's key.
-fn told<'a>(view: &RecordView<'a>) -> (u8, u64, Option<u8>, &'a [u8]) {
+/// A record as text: its kind, and then a term and a vote, an entry, an index, or an index and a value.
+fn record_text(alloc: Global, view: &RecordView<'_>) -> Result<String, AllocError> {
     match view {
-        RecordView::Term(term, vote) => (1, *term, *vote, &[]),
-        RecordView::Add(entry) => (2, entry.term(), None, entry.key()),
-        RecordView::Cut(index) => (3, *index, None, &[]),
-        RecordView::Whole(index, bytes) => (4, *index, None, bytes),
-        RecordView::Commit(index) => (5, *index, None, &[]),
+        RecordView::Term(term, vote) => format!(in alloc; "Term {term} {vote:?}"),
+        RecordView::Add(entry) => format!(in alloc; "Add {}", view_text(alloc, entry)?),
+        RecordView::Cut(index) => format!(in alloc; "Cut {index}"),
+        RecordView::Whole(index, bytes) => format!(in alloc; "Whole {index} {bytes:?}"),
+        RecordView::Commit(index) => format!(in alloc; "Commit {index}"),
     }
 }
 
@@ -502,87 +428,82 @@ fn record_comes_back(rt: &impl Abort, alloc: Global, k: u8, bytes: &[u8]) -> Res
     }
 }
 
-// By hand: the kind, then a term and a vote, an entry, an index, or an index, the length of a value and its bytes.
+/// The bytes of the text are read as the record of the other text, whatever follows them, and are written back.
+fn is_record(rt: &impl Abort, alloc: Global, text: &str, want: &str) -> Result<(), Fail> {
+    let bytes = bytes_of(alloc, text)?;
+    is_short_before_its_end(rt, ReadAs::Record, 2, &bytes);
+    let longer = joined(alloc, &bytes, &[0xff, 0x01])?;
+    let (view, len) = RecordView::read(2, &longer)?;
+    assert_eq!(rt; record_text(alloc, &view)?.as_str(), want);
+    assert_eq!(rt; len, bytes.len());
+    for frame in [bytes.as_slice(), &longer] {
+        assert_eq!(rt; record_comes_back(rt, alloc, 2, frame)?, bytes.len());
+    }
+    Ok(())
+}
+
+/// The bytes of records, and each record as text.
+///
+/// By hand: the kind, then a term and a vote, an entry, an index, or an index, the length of a value and its bytes.
+/// The greatest term is 2^64 - 1, 18446744073709551615; the greatest index is 0xf4240, 1000000.
+const RECORDS: [(&str, &str); 11] = [
+    ("01 0000000000000001 ff", "Term 1 None"),
+    ("01 0000000000000001 00", "Term 1 Some(0)"),
+    ("01 0000000000000000 fe", "Term 0 Some(254)"),
+    (
+        "01 ffffffffffffffff 0e",
+        "Term 18446744073709551615 Some(14)",
+    ),
+    (
+        "02 01 00 0000000000000007 0000000000000000 0000000000000000 00",
+        "Add 7 0 0 Noop [] 0 whole []",
+    ),
+    (
+        "02 02 01 0000000000000003 0000000000000001 0000000000000001 01 6b 00000002 03",
+        "Add 3 1 1 Put [107] 2 part [3]",
+    ),
+    ("03 0000000000000001", "Cut 1"),
+    ("03 00000000000f4240", "Cut 1000000"),
+    ("04 0000000000000102 00000002 aabb", "Whole 258 [170, 187]"),
+    ("04 00000000000f4240 00000001 00", "Whole 1000000 [0]"),
+    ("05 00000000000f4240", "Commit 1000000"),
+];
+
+/// Bytes that end behind a record's field out of range, by the offset at which that field begins.
+///
+/// By hand: a text ends with that field, and the fields before it are within their ranges.
+const BAD_RECORD_FIELDS: [(usize, &str); 6] = [
+    // the kind
+    (0, "00, 06, ff"),
+    // an entry's tag, or an index
+    (
+        1,
+        "02 03,
+        03 0000000000000000, 03 00000000000f4241,
+        04 0000000000000000, 04 00000000000f4241,
+        05 0000000000000000, 05 00000000000f4241",
+    ),
+    // an entry's operation
+    (2, "02 01 05"),
+    // an entry's term
+    (3, "02 01 01 0000000000000000"),
+    // an entry's client
+    (11, "02 01 00 0000000000000001 0000000000000001"),
+    // the length of a value
+    (
+        9,
+        "04 0000000000000001 00000000, 04 0000000000000001 00008001",
+    ),
+];
+
 #[test]
 fn records_are_written_as_by_hand(rt: HostRuntime) -> Result<(), Fail> {
     let alloc = rt.alloc();
-    let cases: [(&str, (u8, u64, Option<u8>, &[u8])); 11] = [
-        ("01 0000000000000001 ff", (1, 1, None, &[])),
-        ("01 0000000000000001 00", (1, 1, Some(0), &[])),
-        ("01 0000000000000000 fe", (1, 0, Some(254), &[])),
-        ("01 ffffffffffffffff 0e", (1, u64::MAX, Some(14), &[])),
-        (
-            "02 01 00 0000000000000007 0000000000000000 0000000000000000 00",
-            (2, 7, None, &[]),
-        ),
-        (
-            "02 02 01 0000000000000003 0000000000000001 0000000000000001 01 6b 00000002 03",
-            (2, 3, None, b"k"),
-        ),
-        ("03 0000000000000001", (3, 1, None, &[])),
-        ("03 00000000000f4240", (3, 1_000_000, None, &[])),
-        (
-            "04 0000000000000102 00000002 aabb",
-            (4, 0x102, None, &[0xaa, 0xbb]),
-        ),
-        (
-            "04 00000000000f4240 00000001 00",
-            (4, 1_000_000, None, &[0]),
-        ),
-        ("05 00000000000f4240", (5, 1_000_000, None, &[])),
-    ];
-    for (text, want) in cases {
-        let bytes = bytes_of(alloc, text)?;
-        for end in 0..bytes.len() {
-            assert_eq!(rt;
-                record_fault(2, &bytes[..end]),
-                Some(FrameFault::Short),
-                "{end} bytes of {text}"
-            );
-        }
-        let longer = joined(alloc, &bytes, &[0xff, 0x01])?;
-        let (view, len) = RecordView::read(2, &longer)?;
-        assert_eq!(rt; told(&view), want);
-        assert_eq!(rt; len, bytes.len());
-        for frame in [bytes.as_slice(), &longer] {
-            assert_eq!(rt; record_comes_back(&rt, alloc, 2, frame)?, bytes.len());
-        }
+    for (text, want) in RECORDS {
+        is_record(&rt, alloc, text, want)?;
     }
-    let faults = [
-        ("00", 0),
-        ("06", 0),
-        ("ff", 0),
-        ("02 03", 1),
-        ("02 01 05", 2),
-        ("02 01 01 0000000000000000", 3),
-        ("02 01 00 0000000000000001 0000000000000001", 11),
-        ("03 0000000000000000", 1),
-        ("03 00000000000f4241", 1),
-        ("04 0000000000000000", 1),
-        ("04 00000000000f4241", 1),
-        ("04 0000000000000001 00000000", 9),
-        ("04 0000000000000001 00008001", 9),
-        ("05 0000000000000000", 1),
-        ("05 00000000000f4241", 1),
-    ];
-    for (text, at) in faults {
-        let bytes = bytes_of(alloc, text)?;
-        for end in 0..bytes.len() {
-            assert_eq!(rt;
-                record_fault(2, &bytes[..end]),
-                Some(FrameFault::Short),
-                "{end} bytes of {text}"
-            );
-        }
-        let longer = joined(alloc, &bytes, &[0; 40])?;
-        for frame in [bytes.as_slice(), &longer] {
-            assert_eq!(rt;
-                record_fault(2, frame),
-                Some(FrameFault::Bad(at)),
-                "at {text}"
-            );
-        }
-    }
+    let count = are_bad(&rt, alloc, ReadAs::Record, &BAD_RECORD_FIELDS)?;
+    assert_eq!(rt; count, 15);
     Ok(())
 }
 
@@ -612,18 +533,9 @@ fn groups_are_written_as_by_hand(rt: HostRuntime) -> Result<(), Fail> {
 
 // ---- made bytes
 
-/// The next word of SplitMix64.
-fn next_word(state: &mut u64) -> u64 {
-    *state = state.wrapping_add(0x9e37_79b9_7f4a_7c15);
-    let mut z = *state;
-    z = (z ^ (z >> 30)).wrapping_mul(0xbf58_476d_1ce4_e5b9);
-    z = (z ^ (z >> 27)).wrapping_mul(0x94d0_49bb_1331_11eb);
-    z ^ (z >> 31)
-}
-
 /// A made byte, often 0 or small.
-fn next_byte(state: &mut u64) -> u8 {
-    let word = next_word(state);
+fn next_byte(rng: &mut SplitMix64) -> u8 {
+    let word = rng.next_u64();
     match word % 8 {
         0 => (word >> 56) as u8,
         1 | 2 => ((word >> 8) % 6) as u8,
@@ -642,11 +554,11 @@ fn entry_byte(word: u64, place: u64, byte: u8) -> u8 {
 }
 
 /// 0 to 60 made bytes, which mostly begin as an entry, as a record of an entry or as another record.
-fn next_bytes(alloc: Global, state: &mut u64) -> Result<Vec<u8>, AllocError> {
-    let word = next_word(state);
+fn next_bytes(alloc: Global, rng: &mut SplitMix64) -> Result<Vec<u8>, AllocError> {
+    let word = rng.next_u64();
     let mut bytes = Vec::new(alloc);
     for at in 0..(word >> 8) % 61 {
-        let byte = next_byte(state);
+        let byte = next_byte(rng);
         bytes.push(match word % 8 {
             0 | 1 | 2 => entry_byte(word, at, byte),
             3 if at < 10 => entry_byte(word, at, byte),
@@ -676,12 +588,12 @@ fn entry_comes_back(rt: &impl Abort, alloc: Global, k: u8, bytes: &[u8]) -> Resu
 #[test]
 fn what_is_read_of_made_bytes_is_written_back(rt: HostRuntime) -> Result<(), Fail> {
     let alloc = rt.alloc();
-    let mut state = 20;
+    let mut rng = SplitMix64::seed_from_u64(20);
     let mut entries = 0u64;
     let mut records = 0u64;
     for n in 0..10_000u64 {
         let k = (n % 8) as u8 + 1;
-        let bytes = next_bytes(alloc, &mut state)?;
+        let bytes = next_bytes(alloc, &mut rng)?;
         if entry_comes_back(&rt, alloc, k, &bytes)? > 0 {
             entries = entries.wrapping_add(1);
         }

@@ -11,25 +11,13 @@ use std::alloc::{AllocError, Global};
 use std::process::Abort;
 use std::test::Fail;
 
-/// The bytes of a text of hexadecimal digits and spaces.
-fn bytes_of(alloc: Global, text: &str) -> Result<Vec<u8>, AllocError> {
-    let mut bytes = Vec::new(alloc);
-    let mut high = None;
-    for c in text.bytes() {
-        let digit = match c {
-            b'0'..=b'9' => c - b'0',
-            b'a'..=b'f' => c - b'a' + 10,
-            _ => continue,
-        };
-        match high {
-            None => high = Some(digit),
-            Some(h) => {
-                bytes.push((h << 4) | digit)?;
-                high = None;
-            }
-        }
+/// The bytes of a text of hexadecimal digits and blanks.
+fn bytes_of(alloc: Global, text: &str) -> Result<Vec<u8>, Fail> {
+    let mut digits = String::new(alloc);
+    for word in text.split_whitespace() {
+        digits.push_str(word)?;
     }
-    Ok(bytes)
+    Ok(hex::decode(alloc, digits)?)
 }
 
 /// Some bytes and then others.
@@ -82,57 +70,47 @@ fn is_message(rt: &impl Abort, alloc: Global, shape: &Shape, bytes: &[u8]) -> Re
 /// What stands for a client in the place of a member.
 const CLIENT: u8 = 255;
 
-/// What a view shows beside its entries.
-#[derive(Clone, Copy, Debug, Default, PartialEq, Eq)]
-struct Shown {
-    kind: u8,
-    from: u8,
-    to: u8,
-    term: u64,
-    last_term: u64,
-    last: u64,
-    granted: bool,
-    prev: u64,
-    prev_term: u64,
-    commit: u64,
-    count: u8,
-    is_matched: bool,
-    mask: u8,
-    next: u64,
-    start: u64,
-    client: u64,
-    seq: u64,
+/// The numbers that a view shows, each with its name.
+fn numbers_of(view: &MessageView<'_>) -> [(&'static str, u64); 14] {
+    [
+        ("term", view.term()),
+        ("last_term", view.last_term()),
+        ("last", view.last()),
+        ("granted", u64::from(view.granted())),
+        ("prev", view.prev()),
+        ("prev_term", view.prev_term()),
+        ("commit", view.commit()),
+        ("count", u64::from(view.count())),
+        ("is_matched", u64::from(view.is_matched())),
+        ("mask", u64::from(view.mask())),
+        ("next", view.next()),
+        ("start", view.start()),
+        ("client", view.client()),
+        ("seq", view.seq()),
+    ]
 }
 
-fn show(view: &MessageView<'_>) -> Shown {
+/// What a view shows beside its entries: its kind, who sends it, who receives it, and then each number that isn't 0, by name;
+/// true is 1.
+fn shown_text(alloc: Global, view: &MessageView<'_>) -> Result<String, Fail> {
     let kind = view.kind();
-    Shown {
-        kind,
-        from: if kind == 7 {
-            CLIENT
-        } else {
-            view.from().number()
-        },
-        to: if kind == 8 {
-            CLIENT
-        } else {
-            view.to().number()
-        },
-        term: view.term(),
-        last_term: view.last_term(),
-        last: view.last(),
-        granted: view.granted(),
-        prev: view.prev(),
-        prev_term: view.prev_term(),
-        commit: view.commit(),
-        count: view.count(),
-        is_matched: view.is_matched(),
-        mask: view.mask(),
-        next: view.next(),
-        start: view.start(),
-        client: view.client(),
-        seq: view.seq(),
+    let from = if kind == 7 {
+        CLIENT
+    } else {
+        view.from().number()
+    };
+    let to = if kind == 8 {
+        CLIENT
+    } else {
+        view.to().number()
+    };
+    let mut text = format!(in alloc; "{kind} {from} {to}")?;
+    for (name, number) in numbers_of(view) {
+        if number != 0 {
+            text.push_str(format!(in alloc; " {name} {number}")?.as_str())?;
+        }
     }
+    Ok(text)
 }
 
 // By hand: two letters, the version, F, k, the kind, who sends, who receives; then term, last term, last index.
@@ -147,14 +125,7 @@ fn the_first_message_of_an_election_is_read(rt: HostRuntime) -> Result<(), Fail>
     assert_eq!(rt; frame.len(), 32);
     is_message(&rt, alloc, &shape, &frame)?;
     let view = MessageView::read(&shape, &frame)?;
-    let want = Shown {
-        kind: 1,
-        from: 0,
-        to: 1,
-        term: 1,
-        ..Shown::default()
-    };
-    assert_eq!(rt; show(&view), want);
+    assert_eq!(rt; shown_text(alloc, &view)?.as_str(), "1 0 1 term 1");
     assert!(rt; view.entry(0).is_none());
     let another = bytes_of(
         alloc,
@@ -191,137 +162,62 @@ const TWO_SLOTS: &str = "4352010102 06 00 02 0000000000000006 0000000000000002 0
     01 00 0000000000000006 0000000000000000 0000000000000000 00
     01 03 0000000000000004 0000000000000001 0000000000000002 02 6b79";
 
-// By hand, behind a head of F = 1, k = 2: the fields that the comment of each row names.
+/// By hand, behind a head of F = 1, k = 2 and the kind, the sender and the receiver: the fields that the comment of each row
+/// names; and what is shown of them.
+const MEMBER_MESSAGES: [(&str, &str); 10] = [
+    // term, last term, last index
+    (
+        "4352010102 01 02 00 0000000000000007 0000000000000003 00000000000f4240",
+        "1 2 0 term 7 last_term 3 last 1000000",
+    ),
+    // term (2^62), granted
+    (
+        "4352010102 02 01 02 4000000000000000 01",
+        "2 1 2 term 4611686018427387904 granted 1",
+    ),
+    // term, not granted
+    ("4352010102 02 00 02 0000000000000001 00", "2 0 2 term 1"),
+    // term, prev, its term, commit, count, entries
+    (
+        TWO_ENTRIES,
+        "3 0 1 term 5 prev 2 prev_term 3 commit 1 count 2",
+    ),
+    (
+        "4352010102 03 01 00 0000000000000001 0000000000000000 0000000000000000 00000000000f4240 00",
+        "3 1 0 term 1 commit 1000000",
+    ),
+    // term, yes, prev, count, mask
+    (
+        "4352010102 04 01 00 0000000000000005 01 0000000000000102 08 a5",
+        "4 1 0 term 5 prev 258 count 8 is_matched 1 mask 165",
+    ),
+    // term, no, next
+    (
+        "4352010102 04 01 00 0000000000000005 00 00000000000f4241",
+        "4 1 0 term 5 next 1000001",
+    ),
+    // term, start
+    (
+        "4352010102 05 02 01 0000000000000006 0000000000000009",
+        "5 2 1 term 6 start 9",
+    ),
+    // term, start, last, count, entries
+    (TWO_SLOTS, "6 0 2 term 6 last 4 count 2 start 2"),
+    (
+        "4352010102 06 00 02 0000000000000006 0000000000000009 0000000000000004 00",
+        "6 0 2 term 6 last 4 start 9",
+    ),
+];
+
 #[test]
 fn messages_of_members_are_as_by_hand(rt: HostRuntime) -> Result<(), Fail> {
     let alloc = rt.alloc();
     let shape = Shape::new(1, 2)?;
-    let none = Shown::default();
-    let cases: [(&str, Shown); 10] = [
-        // term, last term, last index
-        (
-            "4352010102 01 02 00 0000000000000007 0000000000000003 00000000000f4240",
-            Shown {
-                kind: 1,
-                from: 2,
-                term: 7,
-                last_term: 3,
-                last: 1_000_000,
-                ..none
-            },
-        ),
-        // term, granted
-        (
-            "4352010102 02 01 02 4000000000000000 01",
-            Shown {
-                kind: 2,
-                from: 1,
-                to: 2,
-                term: 1 << 62,
-                granted: true,
-                ..none
-            },
-        ),
-        (
-            "4352010102 02 00 02 0000000000000001 00",
-            Shown {
-                kind: 2,
-                to: 2,
-                term: 1,
-                ..none
-            },
-        ),
-        // term, prev, its term, commit, count, entries
-        (
-            TWO_ENTRIES,
-            Shown {
-                kind: 3,
-                to: 1,
-                term: 5,
-                prev: 2,
-                prev_term: 3,
-                commit: 1,
-                count: 2,
-                ..none
-            },
-        ),
-        (
-            "4352010102 03 01 00 0000000000000001 0000000000000000 0000000000000000 00000000000f4240 00",
-            Shown {
-                kind: 3,
-                from: 1,
-                term: 1,
-                commit: 1_000_000,
-                ..none
-            },
-        ),
-        // term, yes, prev, count, mask
-        (
-            "4352010102 04 01 00 0000000000000005 01 0000000000000102 08 a5",
-            Shown {
-                kind: 4,
-                from: 1,
-                term: 5,
-                prev: 0x102,
-                count: 8,
-                is_matched: true,
-                mask: 0xa5,
-                ..none
-            },
-        ),
-        // term, no, next
-        (
-            "4352010102 04 01 00 0000000000000005 00 00000000000f4241",
-            Shown {
-                kind: 4,
-                from: 1,
-                term: 5,
-                next: 1_000_001,
-                ..none
-            },
-        ),
-        // term, start
-        (
-            "4352010102 05 02 01 0000000000000006 0000000000000009",
-            Shown {
-                kind: 5,
-                from: 2,
-                to: 1,
-                term: 6,
-                start: 9,
-                ..none
-            },
-        ),
-        // term, start, last, count, entries
-        (
-            TWO_SLOTS,
-            Shown {
-                kind: 6,
-                to: 2,
-                term: 6,
-                last: 4,
-                count: 2,
-                start: 2,
-                ..none
-            },
-        ),
-        (
-            "4352010102 06 00 02 0000000000000006 0000000000000009 0000000000000004 00",
-            Shown {
-                kind: 6,
-                to: 2,
-                term: 6,
-                last: 4,
-                start: 9,
-                ..none
-            },
-        ),
-    ];
-    for (text, want) in cases {
+    for (text, want) in MEMBER_MESSAGES {
         let frame = bytes_of(alloc, text)?;
         is_message(&rt, alloc, &shape, &frame)?;
         let view = MessageView::read(&shape, &frame)?;
-        assert_eq!(rt; show(&view), want, "at {text}");
+        assert_eq!(rt; shown_text(alloc, &view)?.as_str(), want, "at {text}");
     }
     Ok(())
 }
@@ -354,18 +250,9 @@ fn entries_are_lent_as_by_hand(rt: HostRuntime) -> Result<(), Fail> {
     Ok(())
 }
 
-/// What a client says or is told: a word, a number, and a key and a value.
-#[derive(Debug, PartialEq, Eq, Drop)]
-struct Told<'a> {
-    word: &'a str,
-    number: u64,
-    key: &'a [u8],
-    value: &'a [u8],
-}
-
-/// What a reply tells.
-fn reply_told<'a>(reply: &'a Reply) -> Told<'a> {
-    let (word, number, value): (&str, u64, &[u8]) = match reply {
+/// What a reply tells: a word, a number and a value.
+fn reply_told<'a>(reply: &'a Reply) -> (&'a str, u64, &'a [u8]) {
+    match reply {
         Reply::Done(version) => ("done", *version, &[]),
         Reply::Differs(version) => ("differs", *version, &[]),
         Reply::Gone(was_there) => ("gone", u64::from(*was_there), &[]),
@@ -377,202 +264,126 @@ fn reply_told<'a>(reply: &'a Reply) -> Told<'a> {
         Reply::Preparing => ("preparing", 0, &[]),
         Reply::Busy => ("busy", 0, &[]),
         Reply::Full => ("full", 0, &[]),
-    };
-    Told {
-        word,
-        number,
-        key: &[],
-        value,
     }
 }
 
-/// What a message to or from a client says.
-fn tell<'a>(message: &'a Message) -> Option<Told<'a>> {
-    match message {
-        Message::Peer { .. } => None,
+/// An operation's word, and the version that it expects.
+fn op_told(op: Op) -> (&'static str, u64) {
+    match op {
+        Op::Noop => ("noop", 0),
+        Op::Put => ("put", 0),
+        Op::PutIf(version) => ("putif", version),
+        Op::Del => ("del", 0),
+        Op::Get => ("get", 0),
+    }
+}
+
+/// What a message to or from a client says: a word, a number, a key and a value.
+fn told_text(alloc: Global, message: &Message) -> Result<String, Fail> {
+    let none: &[u8] = &[];
+    let (word, number, key, value) = match message {
+        Message::Peer { .. } => ("peer", 0, none, none),
         Message::Request { request, .. } => {
-            let (word, number) = match request.op {
-                Op::Noop => ("noop", 0),
-                Op::Put => ("put", 0),
-                Op::PutIf(version) => ("putif", version),
-                Op::Del => ("del", 0),
-                Op::Get => ("get", 0),
-            };
-            Some(Told {
+            let (word, number) = op_told(request.op);
+            (
                 word,
                 number,
-                key: request.key.as_bytes(),
-                value: request.value.as_bytes(),
-            })
+                request.key.as_bytes(),
+                request.value.as_bytes(),
+            )
         }
-        Message::Answered { reply, .. } => Some(reply_told(reply)),
-    }
+        Message::Answered { reply, .. } => {
+            let (word, number, value) = reply_told(reply);
+            (word, number, none, value)
+        }
+    };
+    Ok(format!(in alloc; "{word} {number} {key:?} {value:?}")?)
 }
 
-// By hand, behind a head of F = 1, k = 1: client and number; then an operation, the version expected, the length of the key,
-// the key, the length of the value, the value; or the kind of a reply and its fields.
+/// By hand, behind a head of F = 1, k = 1 and the kind, the sender and the receiver: client and number; then an operation, the
+/// version expected, the length of the key, the key, the length of the value, the value; or the kind of a reply and its fields.
+/// Then what is shown and told of them.
+const CLIENT_MESSAGES: [(&str, &str); 16] = [
+    (
+        "4352010101 07 ff 01 0000000000000009 0000000000000003 01 01 61 00000002 6263",
+        "7 255 1 client 9 seq 3 put 0 [97] [98, 99]",
+    ),
+    // 2^62
+    (
+        "4352010101 07 ff 00 0000000000000009 0000000000000003 02 4000000000000000 02 6b79 00000000",
+        "7 255 0 client 9 seq 3 putif 4611686018427387904 [107, 121] []",
+    ),
+    (
+        "4352010101 07 ff 02 0000000000000009 0000000000000003 03 01 00",
+        "7 255 2 client 9 seq 3 del 0 [0] []",
+    ),
+    (
+        "4352010101 07 ff 02 0000000000000009 0000000000000003 04 03 676574",
+        "7 255 2 client 9 seq 3 get 0 [103, 101, 116] []",
+    ),
+    (
+        "4352010101 08 02 ff 0000000000000009 0000000000000003 01 0000000000000005",
+        "8 2 255 client 9 seq 3 done 5 [] []",
+    ),
+    (
+        "4352010101 08 00 ff 0000000000000009 0000000000000003 02 00000000000f4240",
+        "8 0 255 client 9 seq 3 differs 1000000 [] []",
+    ),
+    (
+        "4352010101 08 01 ff 0000000000000009 0000000000000003 03 00",
+        "8 1 255 client 9 seq 3 gone 0 [] []",
+    ),
+    (
+        "4352010101 08 01 ff 0000000000000009 0000000000000003 03 01",
+        "8 1 255 client 9 seq 3 gone 1 [] []",
+    ),
+    (
+        "4352010101 08 01 ff 0000000000000009 0000000000000003 04 0000000000000102 00000003 ff007f",
+        "8 1 255 client 9 seq 3 value 258 [] [255, 0, 127]",
+    ),
+    (
+        "4352010101 08 01 ff 0000000000000009 0000000000000003 05",
+        "8 1 255 client 9 seq 3 nothing 0 [] []",
+    ),
+    (
+        "4352010101 08 01 ff 0000000000000009 0000000000000003 06",
+        "8 1 255 client 9 seq 3 old 0 [] []",
+    ),
+    (
+        "4352010101 08 01 ff 0000000000000009 0000000000000003 07 02",
+        "8 1 255 client 9 seq 3 elsewhere 2 [] []",
+    ),
+    (
+        "4352010101 08 01 ff 0000000000000009 0000000000000003 07 ff",
+        "8 1 255 client 9 seq 3 nowhere 0 [] []",
+    ),
+    (
+        "4352010101 08 01 ff 0000000000000009 0000000000000003 08",
+        "8 1 255 client 9 seq 3 preparing 0 [] []",
+    ),
+    (
+        "4352010101 08 01 ff 0000000000000009 0000000000000003 09",
+        "8 1 255 client 9 seq 3 busy 0 [] []",
+    ),
+    (
+        "4352010101 08 01 ff 0000000000000009 0000000000000003 0a",
+        "8 1 255 client 9 seq 3 full 0 [] []",
+    ),
+];
+
 #[test]
 fn messages_of_clients_are_as_by_hand(rt: HostRuntime) -> Result<(), Fail> {
     let alloc = rt.alloc();
     let shape = Shape::new(1, 1)?;
-    // text, the member's number, word, number, key, value
-    let cases: [(&str, u8, &str, u64, &[u8], &[u8]); 16] = [
-        (
-            "4352010101 07 ff 01 0000000000000009 0000000000000003 01 01 61 00000002 6263",
-            1,
-            "put",
-            0,
-            b"a",
-            b"bc",
-        ),
-        (
-            "4352010101 07 ff 00 0000000000000009 0000000000000003 02 4000000000000000 02 6b79 00000000",
-            0,
-            "putif",
-            1 << 62,
-            b"ky",
-            b"",
-        ),
-        (
-            "4352010101 07 ff 02 0000000000000009 0000000000000003 03 01 00",
-            2,
-            "del",
-            0,
-            &[0],
-            b"",
-        ),
-        (
-            "4352010101 07 ff 02 0000000000000009 0000000000000003 04 03 676574",
-            2,
-            "get",
-            0,
-            b"get",
-            b"",
-        ),
-        (
-            "4352010101 08 02 ff 0000000000000009 0000000000000003 01 0000000000000005",
-            2,
-            "done",
-            5,
-            b"",
-            b"",
-        ),
-        (
-            "4352010101 08 00 ff 0000000000000009 0000000000000003 02 00000000000f4240",
-            0,
-            "differs",
-            1_000_000,
-            b"",
-            b"",
-        ),
-        (
-            "4352010101 08 01 ff 0000000000000009 0000000000000003 03 00",
-            1,
-            "gone",
-            0,
-            b"",
-            b"",
-        ),
-        (
-            "4352010101 08 01 ff 0000000000000009 0000000000000003 03 01",
-            1,
-            "gone",
-            1,
-            b"",
-            b"",
-        ),
-        (
-            "4352010101 08 01 ff 0000000000000009 0000000000000003 04 0000000000000102 00000003 ff007f",
-            1,
-            "value",
-            0x102,
-            b"",
-            &[0xff, 0, 0x7f],
-        ),
-        (
-            "4352010101 08 01 ff 0000000000000009 0000000000000003 05",
-            1,
-            "nothing",
-            0,
-            b"",
-            b"",
-        ),
-        (
-            "4352010101 08 01 ff 0000000000000009 0000000000000003 06",
-            1,
-            "old",
-            0,
-            b"",
-            b"",
-        ),
-        (
-            "4352010101 08 01 ff 0000000000000009 0000000000000003 07 02",
-            1,
-            "elsewhere",
-            2,
-            b"",
-            b"",
-        ),
-        (
-            "4352010101 08 01 ff 0000000000000009 0000000000000003 07 ff",
-            1,
-            "nowhere",
-            0,
-            b"",
-            b"",
-        ),
-        (
-            "4352010101 08 01 ff 0000000000000009 0000000000000003 08",
-            1,
-            "preparing",
-            0,
-            b"",
-            b"",
-        ),
-        (
-            "4352010101 08 01 ff 0000000000000009 0000000000000003 09",
-            1,
-            "busy",
-            0,
-            b"",
-            b"",
-        ),
-        (
-            "4352010101 08 01 ff 0000000000000009 0000000000000003 0a",
-            1,
-            "full",
-            0,
-            b"",
-            b"",
-        ),
-    ];
-    for (text, member, word, number, key, value) in cases {
+    for (text, want) in CLIENT_MESSAGES {
         let frame = bytes_of(alloc, text)?;
         is_message(&rt, alloc, &shape, &frame)?;
         let view = MessageView::read(&shape, &frame)?;
-        let (kind, from, to) = if view.kind() == 7 {
-            (7, CLIENT, member)
-        } else {
-            (8, member, CLIENT)
-        };
-        let want = Shown {
-            kind,
-            from,
-            to,
-            client: 9,
-            seq: 3,
-            ..Shown::default()
-        };
-        assert_eq!(rt; show(&view), want, "at {text}");
         assert!(rt; view.entry(0).is_none());
-        let message = view.to_message(alloc)?;
-        let want = Told {
-            word,
-            number,
-            key,
-            value,
-        };
-        assert_eq!(rt; tell(&message), Some(want), "at {text}");
+        let shown = shown_text(alloc, &view)?;
+        let told = told_text(alloc, &view.to_message(alloc)?)?;
+        let line = format!(in alloc; "{shown} {told}")?;
+        assert_eq!(rt; line.as_str(), want, "at {text}");
     }
     Ok(())
 }
@@ -730,7 +541,7 @@ fn a_bad_field_is_told_where_it_begins(rt: HostRuntime) -> Result<(), Fail> {
 }
 
 /// A whole Put of term 1 with a value of that many bytes: 32 more than those.
-fn long_put(alloc: Global, len: u32) -> Result<Vec<u8>, AllocError> {
+fn long_put(alloc: Global, len: u32) -> Result<Vec<u8>, Fail> {
     let mut bytes = bytes_of(
         alloc,
         "01 01 0000000000000001 0000000000000001 0000000000000001 01 6b",
@@ -741,44 +552,46 @@ fn long_put(alloc: Global, len: u32) -> Result<Vec<u8>, AllocError> {
     Ok(bytes)
 }
 
-// An entry that passes 56,000 bytes is out of range as soon as it stands whole.
+/// Behind that head entries of 56,000 bytes are read, and one that passes them is out of range as soon as it stands whole.
+fn reads_56_000_bytes(rt: &impl Abort, alloc: Global, head: &[u8]) -> Result<(), Fail> {
+    let shape = Shape::new(1, 1)?;
+    let first = long_put(alloc, 32_768)?;
+    // 32,800 and 23,200 bytes
+    let mut two = joined(alloc, head, &[2])?;
+    two.extend_from_slice(&first)?;
+    two.extend_from_slice(&long_put(alloc, 23_168)?)?;
+    let view = MessageView::read(&shape, &two)?;
+    assert_eq!(rt; view.count(), 2);
+    assert_eq!(rt; written(alloc, &shape, &view)?, two);
+
+    let mut above = joined(alloc, head, &[2])?;
+    above.extend_from_slice(&first)?;
+    let second_at = above.len();
+    above.extend_from_slice(&long_put(alloc, 23_169)?)?;
+    assert_eq!(rt; fault_of(&shape, &above), Some(FrameFault::Bad(second_at)));
+    let (_, cut) = above.split_last().ok_or("no bytes")?;
+    assert_eq!(rt; fault_of(&shape, cut), Some(FrameFault::Short));
+
+    let mut three = joined(alloc, head, &[3])?;
+    three.extend_from_slice(&first)?;
+    three.extend_from_slice(&long_put(alloc, 23_168)?)?;
+    let third_at = three.len();
+    let noop = "01 00 0000000000000001 0000000000000000 0000000000000000 00";
+    three.extend_from_slice(&bytes_of(alloc, noop)?)?;
+    assert_eq!(rt; fault_of(&shape, &three), Some(FrameFault::Bad(third_at)));
+    Ok(())
+}
+
+// By hand: the head of an Append up to its count, and that of an Answer.
 #[test]
 fn entries_have_at_most_56_000_bytes(rt: HostRuntime) -> Result<(), Fail> {
     let alloc = rt.alloc();
-    let shape = Shape::new(1, 1)?;
-    let noop = bytes_of(
-        alloc,
-        "01 00 0000000000000001 0000000000000000 0000000000000000 00",
-    )?;
     let heads = [
         "4352010101 03 00 01 0000000000000001 0000000000000000 0000000000000000 0000000000000000",
         "4352010101 06 00 01 0000000000000001 0000000000000001 0000000000000003",
     ];
     for text in heads {
-        let head = bytes_of(alloc, text)?;
-        let first = long_put(alloc, 32_768)?;
-        // 32,800 and 23,200 bytes
-        let mut two = joined(alloc, &head, &[2])?;
-        two.extend_from_slice(&first)?;
-        two.extend_from_slice(&long_put(alloc, 23_168)?)?;
-        let view = MessageView::read(&shape, &two)?;
-        assert_eq!(rt; view.count(), 2);
-        assert_eq!(rt; written(alloc, &shape, &view)?, two);
-
-        let mut above = joined(alloc, &head, &[2])?;
-        above.extend_from_slice(&first)?;
-        let second_at = above.len();
-        above.extend_from_slice(&long_put(alloc, 23_169)?)?;
-        assert_eq!(rt; fault_of(&shape, &above), Some(FrameFault::Bad(second_at)));
-        let (_, cut) = above.split_last().ok_or("no bytes")?;
-        assert_eq!(rt; fault_of(&shape, cut), Some(FrameFault::Short));
-
-        let mut three = joined(alloc, &head, &[3])?;
-        three.extend_from_slice(&first)?;
-        three.extend_from_slice(&long_put(alloc, 23_168)?)?;
-        let third_at = three.len();
-        three.extend_from_slice(&noop)?;
-        assert_eq!(rt; fault_of(&shape, &three), Some(FrameFault::Bad(third_at)));
+        reads_56_000_bytes(&rt, alloc, &bytes_of(alloc, text)?)?;
     }
     Ok(())
 }
@@ -820,6 +633,16 @@ const ENTRIES: [&str; 8] = [
     "10tzz0", "10tzz0", "11tttkv", "12tttikv", "13tttk", "14tttk", "21tttkp", "22tttikp",
 ];
 
+/// The length of a value, and then a fragment of it.
+fn push_part(alloc: Global, frame: &mut Vec<u8>, len: u32, need: u8) -> Result<(), AllocError>
+    requires { 1 ≤ need }
+{
+    let held = part_len(len as usize, need);
+    frame.extend_from_slice(&len.to_be_bytes())?;
+    frame.extend_from_slice(&vec![in alloc; 0x70; held]?)?;
+    Ok(())
+}
+
 /// Made bytes: t a number of eight bytes from 1 on and i one from 0 on, mostly small, z eight bytes of 0, b and m a byte that is
 /// small or is mostly a member's, k a key, v a value, p a fragment of one; all with their lengths.
 fn push_made(
@@ -852,10 +675,25 @@ fn push_made(
             frame.extend_from_slice(&(small as u32).to_be_bytes())?;
             frame.extend_from_slice(some)?;
         }
-        b'p' => {
-            let held = part_len(small as usize, need);
-            frame.extend_from_slice(&(small as u32).to_be_bytes())?;
-            frame.extend_from_slice(&vec![in alloc; 0x70; held]?)?;
+        b'p' => push_part(alloc, frame, small as u32, need)?,
+        _ => {}
+    }
+    Ok(())
+}
+
+/// Mostly leaves the bytes as they are; else adds one, takes the last away or changes one.
+fn change(frame: &mut Vec<u8>, word: u64) -> Result<(), AllocError> {
+    match word % 8 {
+        0 => frame.push((word >> 56) as u8)?,
+        1 => {
+            frame.pop();
+        }
+        2 | 3 => {
+            let len = frame.len() as u64;
+            let at = ((word >> 32) % len.max(1)) as usize;
+            if let Some(byte) = frame.get_mut(at) {
+                *byte = ((word >> 40) % 4) as u8;
+            }
         }
         _ => {}
     }
@@ -887,20 +725,7 @@ fn made_frame(alloc: Global, shape: &Shape, rng: &mut SplitMix64) -> Result<Vec<
             push_made(alloc, &mut frame, rng, need, letter)?;
         }
     }
-    match word % 8 {
-        0 => frame.push((word >> 56) as u8)?,
-        1 => {
-            frame.pop();
-        }
-        2 | 3 => {
-            let len = frame.len() as u64;
-            let at = ((word >> 32) % len.max(1)) as usize;
-            if let Some(byte) = frame.get_mut(at) {
-                *byte = ((word >> 40) % 4) as u8;
-            }
-        }
-        _ => {}
-    }
+    change(&mut frame, word)?;
     Ok(frame)
 }
 

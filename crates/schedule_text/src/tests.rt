@@ -103,64 +103,52 @@ fn assert_line(
     Ok(())
 }
 
+// By hand: the frame's number, who sends, who receives, the word of the message, the term; then its fields, a mask in digits.
 #[test]
-fn messages_are_told(rt: HostRuntime) -> Result<(), Fail> {
-    let alloc = rt.alloc();
+fn votes_and_verdicts_are_told(rt: HostRuntime) -> Result<(), Fail> {
     let vote = Peer::Vote {
         last_term: 1,
         last: 2,
     };
+    let voted = |granted| Peer::VoteReply { granted };
     let matched = Peer::Matched {
         prev: 1,
         count: 4,
         mask: 0x0b,
     };
+    let refused = Peer::Refused { next: 1 };
     let table = [
         (13, send(1, 0, 2, vote), "send 13 1 0 vote 2 1 2"),
-        (
-            3,
-            send(1, 0, 1, Peer::VoteReply { granted: true }),
-            "send 3 1 0 voted 1 yes",
-        ),
-        (
-            5,
-            send(1, 2, 1, Peer::VoteReply { granted: false }),
-            "send 5 1 2 voted 1 no",
-        ),
-        (
-            5,
-            send(0, 1, 1, append(alloc, 0, 0, 0, b"w")?),
-            "send 5 0 1 append 1 0 0 0 w",
-        ),
-        (
-            15,
-            send(0, 2, 1, append(alloc, 3, 2, 1, b"pw")?),
-            "send 15 0 2 append 1 3 2 1 pw",
-        ),
-        (
-            14,
-            send(0, 1, 1, append(alloc, 3, 1, 1, b"")?),
-            "send 14 0 1 append 1 3 1 1 -",
-        ),
+        (3, send(1, 0, 1, voted(true)), "send 3 1 0 voted 1 yes"),
+        (5, send(1, 2, 1, voted(false)), "send 5 1 2 voted 1 no"),
         (19, send(1, 0, 1, matched), "send 19 1 0 matched 1 1 4 0b"),
-        (
-            20,
-            send(2, 0, 2, Peer::Refused { next: 1 }),
-            "send 20 2 0 refused 2 1",
-        ),
-        (
-            16,
-            send(1, 0, 2, Peer::Ask { start: 3 }),
-            "send 16 1 0 ask 2 3",
-        ),
-        (
-            18,
-            send(2, 1, 2, answer(alloc, 3, 4, b"pw")?),
-            "send 18 2 1 answer 2 3 4 pw",
-        ),
+        (20, send(2, 0, 2, refused), "send 20 2 0 refused 2 1"),
+    ];
+    for (frame, output, want) in &table {
+        assert_line(&rt, rt.alloc(), 0, *frame, output, want)?;
+    }
+    Ok(())
+}
+
+// By hand, behind the term: the fields and the form of each entry, - for no entries.
+#[test]
+fn entries_sent_and_asked_for_are_told(rt: HostRuntime) -> Result<(), Fail> {
+    let alloc = rt.alloc();
+    let first = send(0, 1, 1, append(alloc, 0, 0, 0, b"w")?);
+    let two = send(0, 2, 1, append(alloc, 3, 2, 1, b"pw")?);
+    let none = send(0, 1, 1, append(alloc, 3, 1, 1, b"")?);
+    let ask = send(1, 0, 2, Peer::Ask { start: 3 });
+    let two_slots = send(2, 1, 2, answer(alloc, 3, 4, b"pw")?);
+    let no_slots = send(2, 1, 2, answer(alloc, 2, 1, b"")?);
+    let table = [
+        (5, first, "send 5 0 1 append 1 0 0 0 w"),
+        (15, two, "send 15 0 2 append 1 3 2 1 pw"),
+        (14, none, "send 14 0 1 append 1 3 1 1 -"),
+        (16, ask, "send 16 1 0 ask 2 3"),
+        (18, two_slots, "send 18 2 1 answer 2 3 4 pw"),
         (
             u64::MAX,
-            send(2, 1, 2, answer(alloc, 2, 1, b"")?),
+            no_slots,
             "send 18446744073709551615 2 1 answer 2 2 1 -",
         ),
     ];
@@ -229,9 +217,7 @@ fn tick(number: u8, word: u64) -> Inner {
 
 #[test]
 fn a_line_is_read(rt: HostRuntime) -> Result<(), Fail> {
-    let Ok(shape) = Shape::new(1, 2) else {
-        return Ok(());
-    };
+    let shape = Shape::new(1, 2)?;
     let table: [(&[u8], Inner); 4] = [
         (b"tick 0 0", tick(0, 0)),
         (b"tick 2 18446744073709551615", tick(2, u64::MAX)),
@@ -245,37 +231,46 @@ fn a_line_is_read(rt: HostRuntime) -> Result<(), Fail> {
         let read = read_line(rt.alloc(), &shape, line);
         assert_eq!(rt; read, Ok(Line::Do(inner)), "at {line:?}");
     }
-    let bad: [&[u8]; 28] = [
-        b"tick 2 18446744073709551616",
-        b"take 18446744073709551616",
-        b"take 0",
-        b"tick 3 0",
-        b"tick 258 0",
-        b"",
-        b" ",
-        b"tick",
-        b"take",
-        b"tick 0",
-        b"tick 0 0 0",
-        b"take 1 1",
-        b"take  1",
-        b" take 1",
-        b"take 1 ",
-        b"take 1\r",
-        b"take 1\n",
-        b"take 1\0",
-        b"take\t1",
-        b"take 01",
-        b"take +1",
-        b"take -1",
-        b"take 1a",
-        b"Take 1",
-        b"takes 1",
-        b"stop 3 0 take 1",
-        b"call 0 7 1 put 61 0080",
-        b"show 0",
-    ];
-    for line in bad {
+    Ok(())
+}
+
+/// What is no event: a number out of range, words that are too few or too many, blanks and digits that don't belong there, and
+/// words of other commands.
+const BAD_LINES: [&[u8]; 28] = [
+    b"tick 2 18446744073709551616",
+    b"take 18446744073709551616",
+    b"take 0",
+    b"tick 3 0",
+    b"tick 258 0",
+    b"",
+    b" ",
+    b"tick",
+    b"take",
+    b"tick 0",
+    b"tick 0 0 0",
+    b"take 1 1",
+    b"take  1",
+    b" take 1",
+    b"take 1 ",
+    b"take 1\r",
+    b"take 1\n",
+    b"take 1\0",
+    b"take\t1",
+    b"take 01",
+    b"take +1",
+    b"take -1",
+    b"take 1a",
+    b"Take 1",
+    b"takes 1",
+    b"stop 3 0 take 1",
+    b"call 0 7 1 put 61 0080",
+    b"show 0",
+];
+
+#[test]
+fn a_bad_line_is_refused(rt: HostRuntime) -> Result<(), Fail> {
+    let shape = Shape::new(1, 2)?;
+    for line in BAD_LINES {
         let read = read_line(rt.alloc(), &shape, line);
         assert_eq!(rt; read, Err(LineFault::Bad), "at {line:?}");
     }
