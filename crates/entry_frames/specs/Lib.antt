@@ -1,3 +1,4 @@
+pub mod Faults
 pub mod Formats
 pub mod Steps
 pub mod Limits

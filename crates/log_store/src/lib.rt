@@ -3,5 +3,7 @@
 
 mod replay;
 mod store;
+#[cfg(test)]
+mod tests;
 
 pub use store::LogStore;

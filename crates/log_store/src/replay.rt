@@ -26,9 +26,10 @@ impl LogStore {
         let need = need_of(shape);
         let mut store = LogStore::new(alloc, shape);
         for n in 0..groups.count() {
-            if let Some((_, body)) = groups.at(n) {
-                store = store.take_body(need, body)?;
-            }
+            let Some((_, body)) = groups.at(n) else {
+                unreachable!()
+            };
+            store = store.take_body(need, body)?;
         }
         Ok(store)
     }
@@ -62,13 +63,11 @@ impl LogStore {
         let mut store = self;
         let mut rest = body;
         while !rest.is_empty() {
-            match first_of(need, rest) {
-                None => return Ok(store),
-                Some((item, count)) => {
-                    store = store.take(&item)?;
-                    rest = &rest[count..];
-                }
-            }
+            let Some((item, count)) = first_of(need, rest) else {
+                unreachable!()
+            };
+            store = store.take(&item)?;
+            rest = &rest[count..];
         }
         Ok(store)
     }

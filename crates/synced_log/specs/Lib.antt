@@ -1,4 +1,5 @@
 pub mod Journal
+pub mod Faults
 pub mod Crashes
 pub mod Sketches
 pub mod Walks

@@ -1,9 +1,12 @@
 //! Why a file wasn't opened.
-ghost use Rattle.std.specs.Prelude.{◌≡◌};
+ghost use Rattle.std.specs.Prelude.{◌≡◌, Some};
+ghost use Rattle.synced_log.specs.Faults.{fault_text};
 
 use crate::owner::Owner;
 use craft_edge::Failed;
 use std::alloc::AllocError;
+use std::error::Error;
+use std::fmt;
 
 /// Why a journal wasn't opened.
 #[derive(Clone, Copy, Debug, PartialEq, Eq)]
@@ -17,6 +20,23 @@ pub enum OpenFault {
     /// No memory was left.
     OutOfMemory,
 }
+
+impl fmt::Display for OpenFault {
+    ghost output = { λ fault. Some (fault_text fault) };
+
+    fn fmt<W: fmt::Write>(&self, f: &mut fmt::Formatter<W>) -> fmt::Result {
+        match self {
+            OpenFault::DiskFault => write!(f, "the disk failed"),
+            OpenFault::BadJournal(offset) => write!(f, "bad journal at byte {offset}"),
+            OpenFault::WrongOwner { found, wanted } => {
+                write!(f, "wrong owner {found}, wanted {wanted}")
+            }
+            OpenFault::OutOfMemory => write!(f, "out of memory"),
+        }
+    }
+}
+
+impl Error for OpenFault {}
 
 impl From<Failed> for OpenFault {
     ghost use Rattle.synced_log.specs.declared.fault.OpenFault.TheVariants.{DiskFault};

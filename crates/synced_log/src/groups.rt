@@ -1,7 +1,7 @@
 //! The groups of a file that was read.
 ghost use Rattle.std.specs.Prelude.{◌≡◌, ◌≤◌, ◌+◌, length, take, drop, slice_get, Some, MatchOption};
 
-use crate::place::Place;
+use crate::place::{Place, TO_BODY};
 use craft_base::Shape;
 use std::marker::Model;
 
@@ -67,6 +67,6 @@ fn body_at(file: &[u8], place: Place) -> &[u8]
     requires { place.gate + 9 + place.len ≤ length file.now }
     ensures { result.now ≡ take place.len (drop (place.gate + 9) file.now) }
 {
-    let start = place.gate as usize + 9;
+    let start = place.gate as usize + TO_BODY;
     &file[start..start + place.len]
 }

@@ -48,6 +48,7 @@ impl<D: Disk> Journal<D> {
 
         // The file is as it was, unless it was never born, and these are its groups.
         ensures opened { IfOk result (λ x. Opens (D.seen disk) (D.seen x.0.disk) (owned shape.now me) x.0.gate x.1) }
+        ensures shape { IfOk result (λ x. x.1.group ≡ shape.now) }
         ensures fault { IfErr result (λ x. FaultsAs (D.seen disk) (owned shape.now me) x.0) }
         ensures durable { IfOk result (λ x. WhereTold (D.tells_crash disk) (OnlySeen (D.seen x.0.disk) (D.may_leave x.0.disk))) }
 

@@ -29,6 +29,7 @@ fn read_file(
     requires group { group_of owner ≡ shape.now }
     requires born { IsBorn file.items }
     ensures groups { IfOk result (λ x. Reads file.items owner x.1 x.0) }
+    ensures shape { IfOk result (λ x. x.0.group ≡ shape.now) }
     ensures within { IfOk result (λ x. x.1 ≤ length file.items) }
     ensures fault { IfErr result (λ fault. (fault ≡ OpenFault.DiskFault → ⊥) × IsFaultOf file.items owner fault) }
 {
@@ -59,6 +60,7 @@ pub fn open_on<D: Disk>(
 ) -> Result<(Groups, u64), OpenFault>
     requires { me < members_of shape.now }
     ensures opened { IfOk result (λ x. Opens (D.seen disk.old) (D.seen disk.new) (owned shape.now me) x.1 x.0) }
+    ensures shape { IfOk result (λ x. x.0.group ≡ shape.now) }
     ensures reach { IfOk result (λ x. x.1 ≤ max_len) }
     ensures durable { OnOk result (WhereTold (D.tells_crash disk.old) (OnlySeen (D.seen disk.new) (D.may_leave disk.new))) }
     ensures fault { IfErr result (λ fault. FaultsAs (D.seen disk.old) (owned shape.now me) fault) }
@@ -83,6 +85,7 @@ fn open_synced<D: Disk>(
 ) -> Result<(Groups, u64), OpenFault>
     requires { me < members_of shape.now }
     ensures opened { IfOk result (λ x. Opens (D.seen disk.old) (D.seen disk.new) (owned shape.now me) x.1 x.0) }
+    ensures shape { IfOk result (λ x. x.0.group ≡ shape.now) }
     ensures reach { IfOk result (λ x. x.1 ≤ max_len) }
     ensures durable { WhereTold (D.tells_crash disk.old) (OnlySeen (D.seen disk.old) (D.may_leave disk.old))
         → OnOk result (WhereTold (D.tells_crash disk.old) (OnlySeen (D.seen disk.new) (D.may_leave disk.new))) }

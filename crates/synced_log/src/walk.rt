@@ -3,7 +3,7 @@ ghost use Rattle.std.specs.Prelude.{◌≤◌, length, IfOk};
 ghost use Rattle.synced_log.specs.Walks.{WalksWhole};
 
 use crate::header::HEADER;
-use crate::place::Place;
+use crate::place::{Place, TO_BODY};
 use crate::records::take_group;
 use crate::state::State;
 use craft_base::{OutOfMemory, Shape};
@@ -41,7 +41,7 @@ pub fn walk(alloc: Global, shape: &Shape, file: &[u8]) -> Result<(Vec<Place>, En
             gate: at as u64,
             len,
         })?;
-        at += 9 + len;
+        at += TO_BODY + len;
     }
     Ok((places, Ended::Faulty(at as u64)))
 }

@@ -4,7 +4,6 @@ use Rattle.entry_frames.specs.Durable.{after, born}
 use Rattle.synced_log.specs.Journal.{AreGroups, after_groups, placed_from}
 use Rattle.log_store.proofs.Replaying.{after_more, group_at, placed_length, spelled_body, take_all}
 use Rattle.log_store.proofs.store.LogStore.replay.Goals as goal
-use Rattle.log_store.proofs.store.LogStore.replay.Goals.{in-Some+in_ok-store, in_default}
 
 pub take_body-requires-clause-spelled : goal.take_body-requires-clause-spelled
 take_body-requires-clause-spelled c =
@@ -20,20 +19,15 @@ take_body-requires-clause-spelled c =
     )
 
 pub loop-n-preserved : goal.loop-n-preserved
-loop-n-preserved c = elim c.match-at.branch [
-  | in-Some+in_ok-store w ↦
-      record {
-        group = ap (λ s. s.group) w.store-is ∙ w.in_ok-store.ensures.group ∙ c.loop-n.invariant.group;
-        kept = λ all placed are.
-            let here = ap (λ ps. slice_get ps c.loop-n.n) (sym placed) ∙ w.in-Some.ensures in
-            let p = group_at c.args.shape.now.need 32 all c.loop-n.n _ here in
-            let spells = spelled_body c.args.shape.now c.loop-n.store.group born c.loop-n.store.kept all c.loop-n.n p.0 w.in-Some.body.now are p.1 p.2 (sym c.loop-n.invariant.group)
-            (c.loop-n.invariant.kept all placed are) in
-            ap (λ s. s.kept) w.store-is ∙ w.in_ok-store.ensures.kept p.0 spells
-            ∙ ap (λ d. after d p.0) (c.loop-n.invariant.kept all placed are) ∙ sym (after_more born all c.loop-n.n p.0 p.1);
-      }
-  | in_default w ↦ absurd (omega (arith, c.loop-n-test.true, w.in_default.ensures, c.count-n-end.ensures.value))
-]
+loop-n-preserved c = record {
+  group = c.in_ok-store.ensures.group ∙ c.loop-n.invariant.group;
+  kept = λ all placed are.
+      let here = ap (λ ps. slice_get ps c.loop-n.n) (sym placed) ∙ c.in-Some.ensures in
+      let p = group_at c.args.shape.now.need 32 all c.loop-n.n _ here in
+      let spells = spelled_body c.args.shape.now c.loop-n.store.group born c.loop-n.store.kept all c.loop-n.n p.0 c.in-Some.body.now are p.1 p.2 (sym c.loop-n.invariant.group)
+      (c.loop-n.invariant.kept all placed are) in
+      c.in_ok-store.ensures.kept p.0 spells ∙ ap (λ d. after d p.0) (c.loop-n.invariant.kept all placed are) ∙ sym (after_more born all c.loop-n.n p.0 p.1);
+}
 
 pub returns-clause-kept : goal.returns-clause-kept
 returns-clause-kept c = λ all placed are.
