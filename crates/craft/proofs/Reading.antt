@@ -9,7 +9,9 @@ use Rattle.world_model.specs.World as model
 use Rattle.world_model.proofs.Inputs.{lines_of-line, lines_of-unended, lines_of-long, reading-bad, unended_is_bad, long_is_bad, late_is_bad, good_line}
 use Rattle.line_input.specs.declared.line.LineEnd.{LineEnd}
 use Rattle.line_input.specs.declared.line.LineEnd.TheVariants.{LineFeed, Broken}
+use Rattle.schedule_text.specs.declared.line.Inner.TheVariants as inners
 use Rattle.schedule_text.specs.declared.line.Line.{Line}
+use Rattle.schedule_text.specs.declared.line.Line.TheVariants.{Do}
 use Rattle.schedule_text.specs.Events.{line_of_event}
 use Rattle.line_input.specs.Lines.{TakesLine, HasNoLineFeed}
 use Rattle.craft.specs.Replaying.{WhereTold}
@@ -78,3 +80,8 @@ late_line group old new text end (inl is_broken) taken = broken_line group 1_000
 late_line group old new text end (inr is_line) taken =
     bad_line group 1_000_001 old new text (subst (TakesLine old new text) is_line taken)
     (late_is_bad group 1_000_001 (record { text = text; ended = true }) (omega arith))
+
+-- each line asks for an event
+pub event_asked : (line : Line) → (e : model.Event) × (line ≡ line_of_event e)
+event_asked (Do (inners.Tick member word)) = (model.TickAt member word, refl)
+event_asked (Do (inners.Take frame)) = (model.Take frame, refl)

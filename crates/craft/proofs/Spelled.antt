@@ -1,8 +1,8 @@
 -- What members send has a spelling, and what is read of its bytes is what was sent.
-use Rattle.std.proofs.Common.{◌≡◌, ℕ, zero, suc, List, [], ◌∷◌, ◌++◌, map, refl, ap, sym, subst, ◌∙◌, Option, None, Some, All, slice_get}
+use Rattle.std.proofs.Common.{◌≡◌, ℕ, zero, suc, List, [], ◌∷◌, ◌++◌, map, refl, ap, sym, subst, ◌∙◌, None, Some, All, slice_get}
 use Rattle.std.proofs.lemmas.List.Elements.{All-cons, All-head, All-nil, All-tail}
 use Rattle.std.proofs.lemmas.Option.{slice_get_within, get_or_from_slice_get}
-use Rattle.std.specs.Prelude.{Result, Ok, Err, IfOk}
+use Rattle.std.specs.Prelude.{Result, Ok, Err}
 use Rattle.craft_base.specs.Parameters.{Parameters}
 use Rattle.entry_frames.specs.Formats.{Fits}
 use Rattle.entry_frames.specs.MessageFields.{frame_fields}
@@ -18,9 +18,8 @@ use Rattle.world_model.specs.Nodes as members
 use Rattle.world_model.specs.Ranges.{HasSpelling, InRange}
 use Rattle.world_model.specs.Turn as turns
 use Rattle.world_model.specs.World as model
-use Rattle.craft_base.specs.declared.memory.OutOfMemory.{OutOfMemory}
 use Rattle.entry_frames.specs.declared.fault.FrameFault.{FrameFault}
-use Rattle.craft.specs.Frames.{CanBeSent, frame_bytes}
+use Rattle.craft.specs.Frames.{CanBeSent, IsSent, frame_bytes}
 use Rattle.craft.specs.Kept.{kept_body, kept_message}
 use Rattle.craft.specs.Turns.{kept_output}
 use Rattle.craft.specs.Worlds.{StandsFor, kept_frame}
@@ -106,21 +105,26 @@ none_at group (m ∷ ms) zero none = cc
 none_at group (m ∷ ms) (suc place) none = none_at group ms place none
 
 -- what is read of a frame that was sent
-abbrev pub ReadsSent : Parameters → List ℕ → Option Message → Type 0
-ReadsSent group bytes found = (m : plain.Message) → HasSpelling group m → bytes ≡ frame_bytes group (kept_message m) → found ≡ Some (kept_message m)
+abbrev pub ReadsSent : Parameters → List ℕ → Message → Type 0
+ReadsSent group bytes found = (m : plain.Message) → HasSpelling group m → bytes ≡ frame_bytes group (kept_message m) → found ≡ kept_message m
+
+spelled_at :
+    (code : World) (w : model.World) → StandsFor code w → (place : ℕ) (m : plain.Message) → slice_get w.sent place ≡ Some m → HasSpelling code.shape m
+spelled_at code w s place m here =
+    subst (HasSpelling code.shape) (get_or_from_slice_get w.sent place m m here) (s.in_range.sent place m (slice_get_within w.sent place m here))
+
+pub is_sent :
+    (code : World) (place : ℕ) (bytes : List ℕ) → slice_get code.sent.items place ≡ Some bytes → (w : model.World) → StandsFor code w → IsSent code.shape bytes
+is_sent code place bytes here w s =
+    let at = message_at code.shape w.sent place bytes (ap (λ frames. slice_get frames place) (sym s.sent) ∙ here) in
+    (at.0, spelled_at code w s place at.0 at.1, at.2)
 
 pub sent_is_read :
-    (code : World) (place : ℕ) (bytes : List ℕ) → slice_get code.sent.items place ≡ Some bytes → (found : Option Message) → ReadsSent code.shape bytes found →
-    (w : model.World) → StandsFor code w → found ≡ kept_frame (slice_get w.sent place)
+    (code : World) (place : ℕ) (bytes : List ℕ) → slice_get code.sent.items place ≡ Some bytes → (found : Message) → ReadsSent code.shape bytes found →
+    (w : model.World) → StandsFor code w → Some found ≡ kept_frame (slice_get w.sent place)
 sent_is_read code place bytes here found read w s =
     let at = message_at code.shape w.sent place bytes (ap (λ frames. slice_get frames place) (sym s.sent) ∙ here) in
-    let spelled : HasSpelling code.shape at.0 =
-    subst (HasSpelling code.shape) (get_or_from_slice_get w.sent place at.0 at.0 at.1) (s.in_range.sent place at.0 (slice_get_within w.sent place at.0 at.1)) in
-    read at.0 spelled at.2 ∙ ap kept_frame (sym at.1)
+    ap Some (read at.0 (spelled_at code w s place at.0 at.1) at.2) ∙ ap kept_frame (sym at.1)
 
 pub unsent_is_none : (code : World) (place : ℕ) → slice_get code.sent.items place ≡ None → (w : model.World) → StandsFor code w → None ≡ kept_frame (slice_get w.sent place)
 unsent_is_none code place none w s = ap kept_frame (sym (none_at code.shape w.sent place (ap (λ frames. slice_get frames place) (sym s.sent) ∙ none)))
-
-pub each_found : {P Q : Option Message → Type 0} (result : Result (Option Message) OutOfMemory) → IfOk result P → ((found : Option Message) → P found → Q found) → IfOk result Q
-each_found (Ok found) holds then = then found holds
-each_found (Err fault) holds then = tt

@@ -1,8 +1,8 @@
 //! The frames of a network: the messages that members send, in their order, each as its bytes.
-ghost use Rattle.std.specs.Prelude.{◌≡◌, ◌++◌, ◌∷◌, [], All, IfOk, OnOk, Some, map};
+ghost use Rattle.std.specs.Prelude.{◌≡◌, ◌++◌, ◌∷◌, [], All, IfOk, OnOk, map};
 ghost use Rattle.entry_frames.specs.Messages as plain;
 ghost use Rattle.world_model.specs.Ranges.{HasSpelling};
-ghost use Rattle.craft.specs.Frames.{frame_bytes, messages_among, CanBeSent};
+ghost use Rattle.craft.specs.Frames.{frame_bytes, messages_among, CanBeSent, IsSent};
 ghost use Rattle.craft.specs.Kept.{kept_message};
 
 use craft_base::{Blob, OutOfMemory, Shape};
@@ -46,12 +46,13 @@ fn keep_message(
     Ok(())
 }
 
-/// The message in a frame, where the bytes are one. What a member sent always is.
-pub fn frame_in(alloc: Global, shape: &Shape, bytes: &[u8]) -> Result<Option<Message>, OutOfMemory>
-    ensures { IfOk result (λ found. (m : plain.Message) → HasSpelling shape.now m → bytes.now ≡ frame_bytes shape.now (kept_message m) → found ≡ Some (kept_message m)) }
+/// The message in a frame that a member of the group sent. The only error is want of memory.
+pub fn message_in(alloc: Global, shape: &Shape, bytes: &[u8]) -> Result<Message, OutOfMemory>
+    requires { IsSent shape.now bytes.now }
+    ensures { IfOk result (λ found. (m : plain.Message) → HasSpelling shape.now m → bytes.now ≡ frame_bytes shape.now (kept_message m) → found ≡ kept_message m) }
 {
-    match MessageView::read(shape, bytes) {
-        Ok(view) => Ok(Some(view.to_message(alloc)?)),
-        Err(_) => Ok(None),
-    }
+    let Ok(view) = MessageView::read(shape, bytes) else {
+        unreachable!()
+    };
+    view.to_message(alloc)
 }

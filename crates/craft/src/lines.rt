@@ -1,16 +1,15 @@
 //! The text of a run: for each event its number and verdict, and a line for each output.
-ghost use Rattle.std.specs.Prelude.{◌≡◌, ◌+◌, ◌^◌, ◌<◌, ◌≤◌, ◌++◌, ◌∷◌, [], List, length, map, true, false, OnOk};
+ghost use Rattle.std.specs.Prelude.{◌≡◌, ◌+◌, ◌^◌, ◌<◌, ◌≤◌, ◌++◌, ◌∷◌, [], List, length, map, OnOk};
 ghost use Rattle.std.specs.Fmt.{decimal};
 ghost use Rattle.craft.specs.Turns.{kept_output};
 ghost use Rattle.craft.specs.Worlds.{TellsOf, kept_verdict};
 ghost use Rattle.entry_frames.specs.Outputs as told;
-ghost use Rattle.schedule_text.specs.Sends.{SendsPeer};
 ghost use Rattle.world_model.specs.Lines as lines;
 ghost use Rattle.world_model.specs.World as model;
 
 use crate::world::{Happened, Verdict};
 use craft_base::{MemberId, OutOfMemory};
-use peer_frames::{Message, Output};
+use peer_frames::Output;
 use schedule_text::line_of;
 use std::alloc::Global;
 
@@ -22,7 +21,8 @@ pub fn push_event(
     frame: u64,
     happened: &Happened,
 ) -> Result<(), OutOfMemory>
-    requires { frame + length happened.now.outputs.items < 2 ^ 64 }
+    requires range { frame + length happened.now.outputs.items < 2 ^ 64 }
+    requires told { (h : model.Happened) × TellsOf happened.now h }
     ensures { OnOk result ((h : model.Happened) → TellsOf happened.now h → text.new.items ≡ text.old.items ++ lines.event_lines number frame h) }
 {
     push_verdict(alloc, text, number, happened.verdict)?;
@@ -53,42 +53,16 @@ fn push_outputs(
     frame: u64,
     outputs: &[Output],
 ) -> Result<(), OutOfMemory>
-    requires { frame + length outputs.now < 2 ^ 64 }
+    requires range { frame + length outputs.now < 2 ^ 64 }
+    requires told { (os : List told.Output) × (outputs.now ≡ map kept_output os) }
     ensures { OnOk result ((os : List told.Output) → outputs.now ≡ map kept_output os → text.new.items ≡ text.old.items ++ lines.output_lines member frame os) }
 {
     let mut frame = frame;
     for output in outputs {
-        push_output(alloc, text, member, frame, output)?;
+        line_of(alloc, text, member, frame, output)?;
         frame = next_frame(frame, output);
     }
     Ok(())
-}
-
-/// Adds the line of one output of a member. What it sends goes to a member.
-fn push_output(
-    alloc: Global,
-    text: &mut Vec<u8>,
-    member: MemberId,
-    frame: u64,
-    output: &Output,
-) -> Result<(), OutOfMemory>
-    ensures { OnOk result ((o : told.Output) → output.now ≡ kept_output o → text.new.items ≡ text.old.items ++ lines.output_line member frame o) }
-{
-    if sends_peer(output) {
-        line_of(alloc, text, member, frame, output)?;
-    }
-    Ok(())
-}
-
-/// Whether what it sends, if anything, goes to a member.
-fn sends_peer(output: &Output) -> bool
-    ensures yes { result ≡ true → SendsPeer output.now }
-    ensures no { result ≡ false → (o : told.Output) → output.now ≡ kept_output o → ⊥ }
-{
-    match output {
-        Output::Send { message } => matches!(message, Message::Peer { .. }),
-        _ => true,
-    }
 }
 
 /// The number of the next frame after an output.

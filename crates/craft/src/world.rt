@@ -6,7 +6,7 @@ ghost use Rattle.world_model.specs.Spelling.{IsGroup};
 ghost use Rattle.entry_frames.specs.Messages as plain;
 ghost use Rattle.craft.specs.Kept.{kept_node, kept_message};
 
-use crate::frames::{frame_in, keep_messages};
+use crate::frames::{keep_messages, message_in};
 use crate::node::{Input, Node};
 use craft_base::{Blob, MemberId, OutOfMemory, Shape};
 use peer_frames::{Message, Output};
@@ -116,11 +116,12 @@ impl World {
 
     /// The message in the frame of that number, if it was sent.
     fn frame(&self, alloc: Global, number: u64) -> Result<Option<Message>, OutOfMemory>
+        requires { Stands self.now }
         ensures { IfOk result (λ found. (w : model.World) → StandsFor self.now w → found ≡ kept_frame (slice_get w.sent (number - 1))) }
     {
         let place = number.saturating_sub(1) as usize;
         match self.sent.get(place) {
-            Some(frame) => frame_in(alloc, &self.shape, frame.as_bytes()),
+            Some(frame) => Ok(Some(message_in(alloc, &self.shape, frame.as_bytes())?)),
             None => Ok(None),
         }
     }
