@@ -33,10 +33,7 @@ pub(crate) fn next_order(calls: &mut Calls, left: &mut Option<u8>) -> Order
     if stopped && !listed {
         calls.count_fault();
     }
-    *left = match *left {
-        Some(calls_left) => Some(calls_left.saturating_sub(1)),
-        None => None,
-    };
+    *left = left.map(|calls_left| calls_left.saturating_sub(1));
     Order {
         fails: listed || stopped,
         tears,

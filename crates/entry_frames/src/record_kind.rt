@@ -53,9 +53,6 @@ impl RecordKind {
     {
         let at = fields.at();
         let byte = fields.byte(0, u8::MAX)?;
-        match RecordKind::with_byte(byte) {
-            Some(kind) => Ok(kind),
-            None => Err(FrameFault::Bad(at)),
-        }
+        RecordKind::with_byte(byte).ok_or(FrameFault::Bad(at))
     }
 }

@@ -53,9 +53,6 @@ impl Tag {
     {
         let at = fields.at();
         let byte = fields.byte(0, u8::MAX)?;
-        match Tag::with_byte(byte) {
-            Some(tag) => Ok(tag),
-            None => Err(FrameFault::Bad(at)),
-        }
+        Tag::with_byte(byte).ok_or(FrameFault::Bad(at))
     }
 }

@@ -80,10 +80,7 @@ fn first_of(need: u8, bytes: &[u8]) -> Option<(RecordView<'_>, usize)>
         → MatchOption result ⊥ (λ x. IsFirst bytes.now r others x.0 x.1) }
     ensures read { IfSome result (λ x. IsRead need bytes.now x.0 x.1) }
 {
-    match RecordView::read(need, bytes) {
-        Ok(found) => Some(found),
-        Err(_) => None,
-    }
+    RecordView::read(need, bytes).ok()
 }
 
 /// How many fragments rebuild a value.

@@ -153,10 +153,7 @@ impl LogView for LogStore {
     }
 
     fn term_at(&self, index: u64) -> u64 {
-        match self.entry(index) {
-            None => 0,
-            Some(entry) => entry.term,
-        }
+        self.entry(index).map_or(0, |entry| entry.term)
     }
 
     fn at(&self, index: u64) -> Option<EntryView<'_>> {

@@ -239,8 +239,5 @@ fn read_member(fields: &mut Fields<'_>, shape: &Shape) -> Result<MemberId, Frame
 {
     let at = fields.at();
     let number = fields.byte(0, shape.members() - 1)?;
-    match MemberId::new(shape, number) {
-        Some(member) => Ok(member),
-        None => Err(FrameFault::Bad(at)),
-    }
+    MemberId::new(shape, number).ok_or(FrameFault::Bad(at))
 }

@@ -69,9 +69,6 @@ impl Kind {
     {
         let at = fields.at();
         let byte = fields.byte(0, u8::MAX)?;
-        match Kind::with_byte(byte) {
-            Some(kind) => Ok(kind),
-            None => Err(FrameFault::Bad(at)),
-        }
+        Kind::with_byte(byte).ok_or(FrameFault::Bad(at))
     }
 }

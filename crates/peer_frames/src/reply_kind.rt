@@ -68,9 +68,6 @@ impl ReplyKind {
     {
         let at = fields.at();
         let byte = fields.byte(0, u8::MAX)?;
-        match ReplyKind::with_byte(byte) {
-            Some(kind) => Ok(kind),
-            None => Err(FrameFault::Bad(at)),
-        }
+        ReplyKind::with_byte(byte).ok_or(FrameFault::Bad(at))
     }
 }

@@ -19,10 +19,7 @@ pub fn read_line(alloc: Global, shape: &Shape, line: &[u8]) -> Result<Line, Line
     ensures bad { IfErr result (λ fault. fault ≡ Bad → event_of shape.now line.now ≡ None) }
 {
     let words = words(alloc, line)?;
-    match inner_of(shape, &words) {
-        Some(inner) => Ok(Line::Do(inner)),
-        None => Err(LineFault::Bad),
-    }
+    inner_of(shape, &words).map(Line::Do).ok_or(LineFault::Bad)
 }
 
 /// What the words of a line say.

@@ -89,20 +89,15 @@ impl State {
     fn lacks_value(&self, index: u64, len: usize) -> bool
         ensures { result ≡ lacks_value (mark_at self.now.marks index) len }
     {
-        match self.mark_at(index) {
-            None => false,
-            Some(mark) => !mark.whole && mark.vlen as usize == len,
-        }
+        self.mark_at(index)
+            .is_some_and(|mark| !mark.whole && mark.vlen as usize == len)
     }
 
     /// The term at an index, 0 where there is no entry.
     fn term_at(&self, index: u64) -> u64
         ensures { result ≡ term_of_mark (mark_at self.now.marks index) }
     {
-        match self.mark_at(index) {
-            None => 0,
-            Some(mark) => mark.term,
-        }
+        self.mark_at(index).map_or(0, |mark| mark.term)
     }
 
     /// What is kept of the entry at an index, the first of which is 1.
@@ -142,10 +137,7 @@ impl State {
 fn is_voter(shape: &Shape, vote: Option<u8>) -> bool
     ensures { result ≡ is_voter shape.now vote }
 {
-    match vote {
-        None => false,
-        Some(member) => member < shape.members(),
-    }
+    vote.is_some_and(|member| member < shape.members())
 }
 
 /// Notes that the entry at that position is whole.
