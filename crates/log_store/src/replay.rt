@@ -23,13 +23,12 @@ impl LogStore {
         ensures group { IfOk result (λ store. store.group ≡ shape.now) }
         ensures kept { IfOk result (λ store. (all : List (List Record)) → groups.now.placed ≡ placed_from shape.now.need 32 all → AreGroups shape.now born all → store.kept ≡ after_groups born all) }
     {
-        let need = need_of(shape);
         let mut store = LogStore::new(alloc, shape);
         for n in 0..groups.count() {
             let Some((_, body)) = groups.at(n) else {
                 unreachable!()
             };
-            store = store.take_body(need, body)?;
+            store = store.take_body(body)?;
         }
         Ok(store)
     }
@@ -53,13 +52,12 @@ impl LogStore {
     }
 
     /// Applies the records of a body, in order. The only error is want of memory.
-    fn take_body(self, need: u8, body: &[u8]) -> Result<LogStore, OutOfMemory>
-        requires needs { IsNeed need }
-        requires need { need ≡ self.group.need }
-        requires spelled { Spells self body.now }
+    fn take_body(self, body: &[u8]) -> Result<LogStore, OutOfMemory>
+        requires { Spells self body.now }
         ensures group { IfOk result (λ store. store.group ≡ self.group) }
         ensures kept { IfOk result (λ store. (records : List Record) → SpellsAll self.group self.kept body.now records → store.kept ≡ after self.kept records) }
     {
+        let need = self.need();
         let mut store = self;
         let mut rest = body;
         while !rest.is_empty() {
@@ -81,13 +79,4 @@ fn first_of(need: u8, bytes: &[u8]) -> Option<(RecordView<'_>, usize)>
     ensures read { IfSome result (λ x. IsRead need bytes.now x.0 x.1) }
 {
     RecordView::read(need, bytes).ok()
-}
-
-/// How many fragments rebuild a value.
-fn need_of(shape: &Shape) -> u8
-    ensures value { result ≡ shape.now.need }
-    ensures range { IsNeed result }
-{
-    let _faults = shape.faults();
-    shape.need()
 }

@@ -45,6 +45,7 @@ impl LogStore {
         ensures group { result.group ≡ shape.now }
         ensures kept { result.kept ≡ born }
     {
+        // so that the proof sees that they are a group's
         let _faults = shape.faults();
         let _need = shape.need();
         LogStore {
@@ -97,6 +98,7 @@ impl LogStore {
         ensures kept { IfOk result (λ store. store.kept ≡ applied self.kept (Add entry.now.entry)) }
     {
         let mut store = self;
+        // so that the proof sees that the entry is in range
         let _need = entry.need();
         let added = entry.to_entry(store.alloc)?;
         store.entries.push(added)?;
@@ -167,6 +169,15 @@ impl LogView for LogStore {
 impl LogStore {
     ghost use Rattle.std.specs.Prelude.{MatchOption, Some, None};
     ghost use Rattle.entry_frames.specs.Logs.{entry_at};
+    ghost use Rattle.entry_frames.specs.Views.{IsNeed};
+
+    /// How many fragments rebuild a value of its group.
+    pub(crate) fn need(&self) -> u8
+        ensures value { result ≡ self.now.group.need }
+        ensures range { IsNeed result }
+    {
+        self.shape.need()
+    }
 
     /// The entry at an index, the first of which is 1.
     fn entry(&self, index: u64) -> Option<&Entry>

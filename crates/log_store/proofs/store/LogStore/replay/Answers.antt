@@ -5,8 +5,8 @@ use Rattle.synced_log.specs.Journal.{AreGroups, after_groups, placed_from}
 use Rattle.log_store.proofs.Replaying.{after_more, group_at, placed_length, spelled_body, take_all}
 use Rattle.log_store.proofs.store.LogStore.replay.Goals as goal
 
-pub take_body-requires-clause-spelled : goal.take_body-requires-clause-spelled
-take_body-requires-clause-spelled c =
+pub take_body-requires : goal.take_body-requires
+take_body-requires c =
     let k = c.count-n-end.ensures.kept in
     let g = c.args.groups.now.group in
     let here = ap (λ ps. slice_get ps c.loop-n.n) (sym k.placed_are) ∙ c.in-Some.ensures in
