@@ -2,48 +2,60 @@
 use Rattle.std.proofs.Common.{ℕ, ◌∙◌, List, ap, length}
 use Rattle.std.specs.List.{All}
 use Rattle.std.proofs.lemmas.List.Elements.{All-weaker}
-use Rattle.craft_base.specs.Parameters.{Parameters}
-use Rattle.entry_frames.specs.Messages.{Body, VoteRequest, VoteReply, AppendEntries, Matched, Refused, Ask, Answer, Message}
-use Rattle.world_model.specs.Nodes.{Heard, Beat, Voted, Node}
+use Rattle.craft_base.specs.Shape.{Shape}
+use Rattle.entry_frames.specs.declared.peer.Peer.{Peer}
+use Rattle.entry_frames.specs.declared.peer.Peer.TheVariants as peers
+use Rattle.entry_frames.specs.declared.message.Message.{Message}
+use Rattle.entry_frames.specs.declared.message.Message.TheVariants as messages
+use Rattle.craft_base.specs.Knowledge.{Heard, Beat, From, Voted, Matched, Refused, Answered}
+use Rattle.world_model.specs.Nodes.{Node}
 use Rattle.protocol.specs.History.{History}
 use Rattle.protocol.specs.Logs.{last_term}
 use Rattle.protocol.specs.Growth.{Grows, Untouched}
-use Rattle.bridge.specs.Agreement.{BodyAgrees, HeardAgrees, MessageAgrees, NodeAgrees}
+use Rattle.bridge.specs.Agreement.{PeerAgrees, HeardAgrees, MessageAgrees, NodeAgrees, SaidAgrees}
 
 module _ {g h : History} (x : Grows g h) where
-  body_stays : (term sender receiver : ℕ) (body : Body) → BodyAgrees g term sender receiver body → BodyAgrees h term sender receiver body
-  body_stays term sender receiver (VoteRequest last_of last) a =
+  peer_stays : (term sender receiver : ℕ) (body : Peer) → PeerAgrees g term sender receiver body → PeerAgrees h term sender receiver body
+  peer_stays term sender receiver (peers.Vote last_of last) a =
       let kept = x.stood term sender a.stood in
       record {
         stood = x.voted term sender sender a.stood;
         ends = ap last_term kept ∙ a.ends;
         long = ap length kept ∙ a.long;
       }
-  body_stays term sender receiver (VoteReply granted) a = λ yes. x.voted term sender receiver (a yes)
-  body_stays term sender receiver (AppendEntries prev prev_term commit entries) a = tt
-  body_stays term sender receiver (Matched prev count mask) a = tt
-  body_stays term sender receiver (Refused next) a = tt
-  body_stays term sender receiver (Ask start) a = tt
-  body_stays term sender receiver (Answer start last slots) a = tt
+  peer_stays term sender receiver (peers.VoteReply granted) a = λ yes. x.voted term sender receiver (a yes)
+  peer_stays term sender receiver (peers.Append prev prev_term commit entries) a = tt
+  peer_stays term sender receiver (peers.Matched prev count mask) a = tt
+  peer_stays term sender receiver (peers.Refused next) a = tt
+  peer_stays term sender receiver (peers.Ask start) a = tt
+  peer_stays term sender receiver (peers.Answer start last slots) a = tt
 
-  pub message_stays : {m : Message} → MessageAgrees g m → MessageAgrees h m
-  message_stays {m = m} a = record { apart = a.apart; body = body_stays m.term m.sender m.receiver m.body a.body }
+  said_stays : (from to at : ℕ) (body : Peer) → SaidAgrees g from to at body → SaidAgrees h from to at body
+  said_stays from to at body a = record { apart = a.apart; body_agrees = peer_stays at from to body a.body_agrees }
+
+  pub message_stays : (m : Message) → MessageAgrees g m → MessageAgrees h m
+  message_stays (messages.Peer sender receiver term body) a = said_stays sender receiver term body a
+  message_stays (messages.Request receiver request) a = tt
+  message_stays (messages.Answered sender client seq reply) a = tt
 
   pub messages_stay : (sent : List Message) → All (MessageAgrees g) sent → All (MessageAgrees h) sent
-  messages_stay sent a = All-weaker (MessageAgrees g) (MessageAgrees h) (λ m. message_stays {m = m}) sent a
+  messages_stay sent a = All-weaker (MessageAgrees g) (MessageAgrees h) message_stays sent a
 
   heard_stays : (term me : ℕ) (item : Heard) → HeardAgrees g term me item → HeardAgrees h term me item
   heard_stays term me Beat a = tt
-  heard_stays term me (Voted sender granted) a = message_stays a
+  heard_stays term me (From sender last (Voted granted)) a = said_stays sender me term (peers.VoteReply granted) a
+  heard_stays term me (From sender last (Matched prev count mask)) a = tt
+  heard_stays term me (From sender last (Refused next)) a = tt
+  heard_stays term me (From sender last Answered) a = tt
 
   pub all_heard_stays : (term me : ℕ) (heard : List Heard) → All (HeardAgrees g term me) heard → All (HeardAgrees h term me) heard
   all_heard_stays term me heard a = All-weaker (HeardAgrees g term me) (HeardAgrees h term me) (heard_stays term me) heard a
 
   -- a node whose member didn't move
   pub node_stays :
-      {shape : Parameters} {place : ℕ} {n : Node} → Untouched g h place → NodeAgrees shape g place n → NodeAgrees shape h place n
-  node_stays {place = place} {n = n} u a = record {
-    group = a.group;
+      {shape : Shape} {member : ℕ} {n : Node} → Untouched g h member → NodeAgrees shape g member n → NodeAgrees shape h member n
+  node_stays {member = member} {n = n} u a = record {
+    of_shape = a.of_shape;
     me = a.me;
     within = a.within;
     term = u.term ∙ a.term;
@@ -51,5 +63,5 @@ module _ {g h : History} (x : Grows g h) where
     log = u.log ∙ a.log;
     commit = u.commit ∙ a.commit;
     role = u.role ∙ a.role;
-    heard = all_heard_stays n.durable.term place n.volatile.heard a.heard;
+    heard = all_heard_stays n.durable.term member n.volatile.heard a.heard;
   }

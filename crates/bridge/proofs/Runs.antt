@@ -1,7 +1,8 @@
 -- Whole runs, by induction on the list of events.
 use Rattle.std.proofs.Common.{◌≡◌, ℕ, zero, suc, ◌+◌, List, [], ◌∷◌, take, refl, sym, subst, arith}
-use Rattle.craft_base.specs.Parameters.{Parameters}
-use Rattle.world_model.specs.World.{Event, World, run_from, step}
+use Rattle.craft_base.specs.Shape.{Shape}
+use Rattle.world_model.specs.World.{World, run_from, step}
+use Rattle.world_model.specs.declared.line.Line.{Line}
 use Rattle.protocol.specs.History.{History}
 use Rattle.protocol.specs.Moves.{Moves, Reached, None_yet}
 use Rattle.protocol.proofs.Runs.{moves_trans}
@@ -16,7 +17,7 @@ first_then : History → (ℕ → History) → ℕ → History
 first_then g rest zero = g
 first_then g rest (suc count) = rest count
 
-module _ {shape : Parameters} {g : History} {w : World} (a : WorldAgrees shape g w) where
+module _ {shape : Shape} {g : History} {w : World} (a : WorldAgrees shape g w) where
   no_events : (count : ℕ) → WorldAgrees shape g (run_from w (take count []))
   no_events zero = a
   no_events (suc count) = a
@@ -30,7 +31,7 @@ module _ {shape : Parameters} {g : History} {w : World} (a : WorldAgrees shape g
   one_more_moves h rest run e moves (suc count) = moves count
 
   one_more_agrees :
-      (rest : ℕ → History) (event : Event) (events : List Event) →
+      (rest : ℕ → History) (event : Line) (events : List Line) →
       ((count : ℕ) → WorldAgrees shape (rest count) (run_from (step w event).world (take count events))) →
       (count : ℕ) → WorldAgrees shape (first_then g rest count) (run_from w (take count (event ∷ events)))
   unfolding first_then
@@ -39,7 +40,7 @@ module _ {shape : Parameters} {g : History} {w : World} (a : WorldAgrees shape g
 
   -- one event, and then a run
   one_more :
-      (event : Event) (events : List Event) (b : WorldBridged shape g (step w event).world) →
+      (event : Line) (events : List Line) (b : WorldBridged shape g (step w event).world) →
       RunBridged shape b.history (step w event).world events → RunBridged shape g w (event ∷ events)
   unfolding first_then
   one_more event events b rest = record {
@@ -50,7 +51,7 @@ module _ {shape : Parameters} {g : History} {w : World} (a : WorldAgrees shape g
   }
 
 run_bridged :
-    (shape : Parameters) (events : List Event) (g : History) (w : World) → Reached shape.faults g → WorldAgrees shape g w →
+    (shape : Shape) (events : List Line) (g : History) (w : World) → Reached shape.faults g → WorldAgrees shape g w →
     RunBridged shape g w events
 run_bridged shape [] g w reached a = record { history = λ count. g; first = refl; moves = λ count. None_yet; agrees = no_events a }
 run_bridged shape (event ∷ events) g w reached a =
@@ -59,9 +60,9 @@ run_bridged shape (event ∷ events) g w reached a =
     one_more a event events b (run_bridged shape events b.history (step w event).world later b.agrees)
 
 pub runs_are_bridged : RunsAreBridged
-runs_are_bridged group events = run_bridged group events _ _ None_yet (start_agrees group)
+runs_are_bridged shape events run = run_bridged shape events _ _ None_yet (start_agrees shape)
 
-module _ {shape : Parameters} {g : History} {w : World} {events : List Event} (r : RunBridged shape g w events) where
+module _ {shape : Shape} {g : History} {w : World} {events : List Line} (r : RunBridged shape g w events) where
   -- of a run's histories, each comes by moves of each before it
   pub moves_between : (count more : ℕ) → Moves shape.faults (r.history count) (r.history (count + more))
   moves_between count zero =

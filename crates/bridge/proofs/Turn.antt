@@ -1,54 +1,62 @@
 -- A turn: a message first makes a node catch up, and then is taken by what it says.
-use Rattle.std.proofs.Common.{◌≡◌, ℕ, nat_lt, false}
+use Rattle.std.proofs.Common.{◌≡◌, ℕ, nat_lt, false, sym, subst}
 use Rattle.std.proofs.lemmas.Bool.{cond_both}
-use Rattle.craft_base.specs.Parameters.{Parameters}
-use Rattle.entry_frames.specs.Messages.{Body, VoteRequest, VoteReply, AppendEntries, Matched, Refused, Ask, Answer, Message}
+use Rattle.craft_base.specs.Shape.{Shape}
+use Rattle.entry_frames.specs.MessageParts.{receiver_byte}
+use Rattle.entry_frames.specs.declared.message.Message.{Message}
+use Rattle.entry_frames.specs.declared.message.Message.TheVariants as messages
+use Rattle.entry_frames.specs.declared.peer.Peer.{Peer}
+use Rattle.entry_frames.specs.declared.peer.Peer.TheVariants as peers
 use Rattle.world_model.specs.Nodes.{Node}
-use Rattle.world_model.specs.Rules.Acts.{stays}
-use Rattle.world_model.specs.Rules.Terms.{caught_up, refuses_stale}
-use Rattle.world_model.specs.Turn.{takes_body, takes}
-use Rattle.world_model.proofs.Turns.{caught_up_term}
+use Rattle.world_model.specs.Rules.Acts.{followed_by}
+use Rattle.world_model.specs.Rules.Terms.{act_of_lower_term, act_of_term}
+use Rattle.world_model.specs.Turn.{act_of_message, act_of_peer}
+use Rattle.world_model.proofs.Turns.{caught_up}
 use Rattle.protocol.specs.History.{History}
 use Rattle.protocol.specs.Moves.{Reached}
-use Rattle.bridge.specs.Agreement.{MessageAgrees, NodeAgrees}
+use Rattle.bridge.specs.Agreement.{MessageAgrees, NodeAgrees, SaidAgrees}
 use Rattle.bridge.specs.Bridges.{ActBridged}
 use Rattle.bridge.proofs.Facts.{message_stays}
 use Rattle.bridge.proofs.Steps.{reached_grows, then_moved, unmoved_stays}
-use Rattle.bridge.proofs.Rules.Terms.{caught_up_bridged, refuses_stale_bridged}
-use Rattle.bridge.proofs.Rules.Vote.{considers_vote_bridged}
-use Rattle.bridge.proofs.Rules.VoteReply.{counts_reply_bridged}
+use Rattle.bridge.proofs.Rules.Terms.{lower_term_bridged, term_bridged}
+use Rattle.bridge.proofs.Rules.Vote.{vote_request_bridged}
+use Rattle.bridge.proofs.Rules.VoteReply.{vote_reply_bridged}
 use Rattle.protocol.proofs.Runs.{moves_trans}
 
--- a message of the node's own term, by what it says
-takes_body_bridged :
-    {shape : Parameters} {g : History} {place : ℕ} {n : Node} (sender : ℕ) (body : Body) → Reached shape.faults g →
-    NodeAgrees shape g place n → MessageAgrees g (record { sender = sender; receiver = place; term = n.durable.term; body = body }) →
-    ActBridged shape g place (takes_body n sender body)
-takes_body_bridged sender (VoteRequest last_of last) reached a told =
-    considers_vote_bridged reached a sender told.apart last_of last told.body
-takes_body_bridged sender (VoteReply granted) reached a told = counts_reply_bridged sender granted reached a told
-takes_body_bridged sender (AppendEntries prev prev_term commit entries) reached a told = unmoved_stays a
-takes_body_bridged sender (Matched prev count mask) reached a told = unmoved_stays a
-takes_body_bridged sender (Refused next) reached a told = unmoved_stays a
-takes_body_bridged sender (Ask start) reached a told = unmoved_stays a
-takes_body_bridged sender (Answer start last slots) reached a told = unmoved_stays a
+-- what another member says in the node's own term
+peer_bridged :
+    {shape : Shape} {g : History} {member : ℕ} {n : Node} (sender : ℕ) (body : Peer) → Reached shape.faults g →
+    NodeAgrees shape g member n → SaidAgrees g sender member n.durable.term body → ActBridged shape g member (act_of_peer n sender body)
+peer_bridged sender (peers.Vote last_of last) reached a told = vote_request_bridged reached a sender told.apart last_of last told.body_agrees
+peer_bridged sender (peers.VoteReply granted) reached a told = vote_reply_bridged sender granted reached a told
+peer_bridged sender (peers.Append prev prev_term commit entries) reached a told = unmoved_stays a
+peer_bridged sender (peers.Matched prev count mask) reached a told = unmoved_stays a
+peer_bridged sender (peers.Refused next) reached a told = unmoved_stays a
+peer_bridged sender (peers.Ask start) reached a told = unmoved_stays a
+peer_bridged sender (peers.Answer start last slots) reached a told = unmoved_stays a
 
 module _
-    {shape : Parameters} {g : History} {n : Node} {m : Message} (reached : Reached shape.faults g) (a : NodeAgrees shape g m.receiver n)
-    (told : MessageAgrees g m) where
-  -- a message that isn't of a lower term
-  takes_current_bridged :
-      nat_lt m.term n.durable.term ≡ false → ActBridged shape g m.receiver (takes_body (caught_up n m) m.sender m.body)
-  takes_current_bridged current =
-      let first : ActBridged shape g m.receiver (stays (caught_up n m)) = caught_up_bridged a m in
+    {shape : Shape} {g : History} {n : Node} {from to at : ℕ} {body : Peer} (reached : Reached shape.faults g) (a : NodeAgrees shape g to n)
+    (told : SaidAgrees g from to at body) where
+  -- what isn't of a lower term
+  current_bridged : nat_lt at n.durable.term ≡ false → ActBridged shape g to (followed_by (act_of_term at n) (λ now. act_of_peer now from body))
+  current_bridged current =
+      let first : ActBridged shape g to (act_of_term at n) = term_bridged a at in
       let h : History = first.history in
-      let still : MessageAgrees h m = message_stays (reached_grows reached (first.moves).run) told in
-      let own : MessageAgrees h (record m { term = (caught_up n m).durable.term }) = rw (caught_up_term n m current) still in
+      let still : SaidAgrees h from to at body = message_stays (reached_grows reached (first.moves).run) (messages.Peer from to at body) told in
+      let own : SaidAgrees h from to (act_of_term at n).node.durable.term body = subst (λ t. SaidAgrees h from to t body) (sym (caught_up n at current)) still in
       let later : Reached shape.faults h = moves_trans shape.faults _ g h reached (first.moves).run in
-      then_moved _ first (takes_body_bridged m.sender m.body later first.node own)
+      then_moved reached (act_of_term at n) (λ now. act_of_peer now from body) first (peer_bridged from body later first.node own)
 
-  -- a message comes to the member that it is for
-  pub takes_bridged : ActBridged shape g m.receiver (takes m n)
-  takes_bridged =
-      cond_both (nat_lt m.term n.durable.term) (refuses_stale n m) (takes_body (caught_up n m) m.sender m.body)
-      (ActBridged shape g m.receiver) (λ lower. refuses_stale_bridged a m told.apart) takes_current_bridged
+  said_bridged : ActBridged shape g to (act_of_message (messages.Peer from to at body) n)
+  said_bridged =
+      cond_both (nat_lt at n.durable.term) (act_of_lower_term n from body) (followed_by (act_of_term at n) (λ now. act_of_peer now from body))
+      (ActBridged shape g to) (λ lower. lower_term_bridged a from body told.apart) current_bridged
+
+-- a message comes to the member that it is for
+pub message_bridged :
+    {shape : Shape} {g : History} {n : Node} (m : Message) → Reached shape.faults g → NodeAgrees shape g (receiver_byte m) n → MessageAgrees g m →
+    ActBridged shape g (receiver_byte m) (act_of_message m n)
+message_bridged (messages.Peer from to at body) reached a told = said_bridged reached a told
+message_bridged (messages.Request receiver request) reached a told = unmoved_stays a
+message_bridged (messages.Answered sender client seq reply) reached a told = unmoved_stays a

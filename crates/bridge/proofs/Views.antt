@@ -2,8 +2,8 @@
 use Rattle.std.proofs.Common.{◌≡◌, ℕ, ◌<◌, ◌≤◌, true, length, List, [], ◌∷◌, refl, ap, suc, inl, inr, arith}
 use Rattle.std.proofs.lemmas.Bool.{or_cases, and_parts, ltb-true, leb-true, eqb-true}
 use Rattle.craft_base.specs.declared.command.Entry.{Entry}
-use Rattle.world_model.specs.Logs as node
-use Rattle.world_model.specs.Rules.Vote.{is_as_good}
+use Rattle.entry_frames.specs.Logs as node
+use Rattle.world_model.specs.Rules.Vote.{is_up_to_date}
 use Rattle.protocol.specs.Logs.{Slot, term_at, last_term}
 use Rattle.protocol.specs.Moves.{IsUpToDate}
 use Rattle.bridge.specs.Views.{log_seen}
@@ -18,11 +18,11 @@ last_term_seen [] = refl
 last_term_seen (entry ∷ []) = refl
 last_term_seen (entry ∷ next ∷ log) = last_term_seen (next ∷ log)
 
--- a log that a member takes for as good as its own is up to date
+-- a log that a member takes for up to date is so to the protocol
 pub up_to_date :
     (theirs mine : List Slot) (their_term their_last my_term my_last : ℕ) →
     last_term theirs ≡ their_term → length theirs ≡ their_last → last_term mine ≡ my_term → length mine ≡ my_last →
-    is_as_good my_term my_last their_term their_last ≡ true → IsUpToDate theirs mine
+    is_up_to_date my_term my_last their_term their_last ≡ true → IsUpToDate theirs mine
 up_to_date theirs mine their_term their_last my_term my_last a b c d good =
     elim (or_cases _ _ good) [
       | inl later ↦ let lt : my_term < their_term = ltb-true _ _ later in inl (omega arith)

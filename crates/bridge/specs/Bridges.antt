@@ -1,34 +1,35 @@
 -- What it is for a rule, an event and a run of the world to be moves of the protocol.
 use Rattle.std.specs.Prelude.{◌≡◌, ◌≢◌, ℕ, zero, suc, List, All, take}
-use Rattle.craft_base.specs.Parameters.{Parameters}
+use Rattle.craft_base.specs.Shape.{Shape}
 use Rattle.world_model.specs.Rules.Acts.{Act}
-use Rattle.world_model.specs.World.{Event, World, run_from}
+use Rattle.world_model.specs.World.{World, run_from}
+use Rattle.world_model.specs.declared.line.Line.{Line}
 use Rattle.protocol.specs.History.{History}
 use Rattle.protocol.specs.Moves.{Moves}
 use Rattle.protocol.specs.Growth.{Untouched}
 use Rattle.bridge.specs.Agreement.{MessageAgrees, NodeAgrees, WorldAgrees}
 
 -- moves of one member alone, from one history to another
-pub record OwnMoves (F place : ℕ) (g h : History) : Type 0 where
+pub record OwnMoves (F member : ℕ) (g h : History) : Type 0 where
   pub run : Moves F g h
-  pub others : (k : ℕ) → k ≢ place → Untouched g h k
+  pub others : (k : ℕ) → k ≢ member → Untouched g h k
 
 -- from that history there are moves of one member alone, after which what a rule made of its node agrees
-pub record ActBridged (shape : Parameters) (g : History) (place : ℕ) (act : Act) : Type 0 where
+pub record ActBridged (shape : Shape) (g : History) (member : ℕ) (act : Act) : Type 0 where
   pub history : History
-  pub moves : OwnMoves shape.faults place g history
-  pub node : NodeAgrees shape history place act.node
+  pub moves : OwnMoves shape.faults member g history
+  pub node : NodeAgrees shape history member act.node
   pub sends : All (MessageAgrees history) act.sends
 
 -- from that history there are moves after which the world agrees
-pub record WorldBridged (shape : Parameters) (g : History) (w : World) : Type 0 where
+pub record WorldBridged (shape : Shape) (g : History) (w : World) : Type 0 where
   pub history : History
   pub moves : Moves shape.faults g history
   pub agrees : WorldAgrees shape history w
 
 -- a history for each front of the events, the first of them that one, each made of the one before by moves, and agreeing
 -- with the world that the events up to there make of this one
-pub record RunBridged (shape : Parameters) (g : History) (w : World) (events : List Event) : Type 0 where
+pub record RunBridged (shape : Shape) (g : History) (w : World) (events : List Line) : Type 0 where
   pub history : ℕ → History
   pub first : history zero ≡ g
   pub moves : (count : ℕ) → Moves shape.faults (history count) (history (suc count))

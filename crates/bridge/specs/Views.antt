@@ -3,7 +3,8 @@ use Rattle.std.specs.Prelude.{List, map}
 use Rattle.craft_base.specs.declared.command.Entry.{Entry}
 use Rattle.craft_base.specs.declared.command.Form.{Form}
 use Rattle.craft_base.specs.declared.command.Form.TheVariants.{Whole, Part}
-use Rattle.entry_frames.specs.Outputs.{Role, Follower, Candidate, Preparing, Leader}
+use Rattle.entry_frames.specs.declared.role.Role.{Role}
+use Rattle.entry_frames.specs.declared.role.Role.TheVariants.{Follower, Candidate, Preparing, Leader}
 use Rattle.protocol.specs.History as protocol
 use Rattle.protocol.specs.Logs as slots
 

@@ -1,18 +1,18 @@
-//! Why the rules of a turn are safe: every run of a group is a run of the protocol, and so what the protocol promises holds
-//! of it. Nothing here runs: each function states a law as its contract, for every group and every list of events.
-//! `specs/Agreement.antt` says when a world agrees with a history of the protocol; `docs/PROOFS.md`, "The bridge", tells
-//! the argument.
+//! Why the rules of a turn are safe: every run of a cluster is a run of the protocol, and so what the protocol promises holds
+//! of it. Nothing here runs: each function states a law as its contract, for every shape and every list of events in range.
+//! `specs/Agreement.antt` says when a world agrees with a history of the protocol; `docs/proofs/BRIDGE.md` tells the
+//! argument.
 #![tactic(auto)]
 
 ghost use Rattle.bridge.specs.Laws.{OneLeaderInEveryRun, RunsAreBridged, SomeRunElects};
 
-/// Every run of a group is a run of the protocol: after each front of the events there is a history, made of the one before
+/// Every run of a cluster is a run of the protocol: after each front of the events there is a history, made of the one before
 /// by moves, with which each member and each message that was ever sent agrees.
 pub fn every_run_is_one_of_the_protocol()
     ensures { RunsAreBridged }
 {}
 
-/// No term has two members that were ever its leader, whatever the events (Raft's election safety).
+/// No term has two members that ever led it or prepared to, whatever the events (Raft's election safety).
 pub fn one_leader_a_term()
     ensures { OneLeaderInEveryRun }
 {}

@@ -3,7 +3,7 @@ mod Voting
 mod Worlds
 mod Progressing
 mod Reading
-mod Roles
+mod Waiting
 mod Spelled
 mod Asked
 mod Printing

@@ -1,130 +1,121 @@
 -- What members send has a spelling, and what is read of its bytes is what was sent.
-use Rattle.std.proofs.Common.{◌≡◌, ℕ, zero, suc, List, [], ◌∷◌, ◌++◌, map, refl, ap, sym, subst, ◌∙◌, None, Some, All, slice_get}
-use Rattle.std.proofs.lemmas.List.Elements.{All-cons, All-head, All-nil, All-tail}
+use Rattle.std.proofs.Common.{◌≡◌, ℕ, zero, suc, ◌-◌, List, [], ◌∷◌, ◌++◌, map, refl, ap, sym, subst, ◌∙◌, Option, None, Some, All, slice_get}
+use Rattle.std.proofs.lemmas.List.Elements.{All-cons, All-head, All-nil, All-tail, All-weaker}
 use Rattle.std.proofs.lemmas.Option.{slice_get_within, get_or_from_slice_get}
 use Rattle.std.specs.Prelude.{Result, Ok, Err}
-use Rattle.craft_base.specs.Parameters.{Parameters}
-use Rattle.entry_frames.specs.Formats.{Fits}
-use Rattle.entry_frames.specs.MessageFields.{frame_fields}
-use Rattle.entry_frames.specs.Messages as plain
-use Rattle.entry_frames.specs.Outputs as told
-use Rattle.peer_frames.specs.Messages.{body_of, frame_of}
-use Rattle.peer_frames.specs.declared.message.Message.{Message}
-use Rattle.peer_frames.specs.declared.message.Message.TheVariants as messages
-use Rattle.peer_frames.specs.declared.message.Peer.{Peer}
-use Rattle.peer_frames.specs.declared.message.Peer.TheVariants as bodies
-use Rattle.peer_frames.specs.declared.output.Output.{Output}
-use Rattle.world_model.specs.Nodes as members
+use Rattle.craft_base.specs.Shape.{Shape}
+use Rattle.entry_frames.specs.MessageParts.{receiver_byte}
+use Rattle.entry_frames.specs.declared.fault.FrameFault.{FrameFault}
+use Rattle.entry_frames.specs.declared.message.Message.{Message}
+use Rattle.entry_frames.specs.declared.output.Output.{Output}
+use Rattle.entry_frames.specs.declared.output.Output.TheVariants as outputs
+use Rattle.schedule_text.specs.Sends.{SendsPeer}
+use Rattle.world_model.specs.Nodes.{Node}
 use Rattle.world_model.specs.Ranges.{HasSpelling, InRange}
 use Rattle.world_model.specs.Turn as turns
 use Rattle.world_model.specs.World as model
-use Rattle.entry_frames.specs.declared.fault.FrameFault.{FrameFault}
-use Rattle.craft.specs.Frames.{CanBeSent, IsSent, frame_bytes}
-use Rattle.craft.specs.Kept.{kept_body, kept_message}
-use Rattle.craft.specs.Turns.{kept_output}
-use Rattle.craft.specs.Worlds.{StandsFor, kept_frame}
+use Rattle.world_model.specs.declared.line.Inner.TheVariants as inners
+use Rattle.world_model.specs.declared.line.Line.{Line}
+use Rattle.world_model.specs.declared.line.Line.TheVariants.{Do}
+use Rattle.craft.specs.Network.{CanBeSent, IsSent, frame_bytes}
+use Rattle.craft.specs.Worlds.{StandsFor}
 use Rattle.craft.specs.declared.world.World.{World}
 
-body_kept : (body : plain.Body) → body_of (kept_body body) ≡ body
-body_kept (plain.VoteRequest last_term last) = refl
-body_kept (plain.VoteReply granted) = refl
-body_kept (plain.AppendEntries prev prev_term commit entries) = refl
-body_kept (plain.Matched prev count mask) = refl
-body_kept (plain.Refused next) = refl
-body_kept (plain.Ask start) = refl
-body_kept (plain.Answer start last slots) = refl
+can_be_sent : (shape : Shape) (told : List Output) → All (HasSpelling shape) (model.sent_among told) → All (CanBeSent shape) told
+can_be_sent shape [] spelled = All-nil (CanBeSent shape)
+can_be_sent shape (outputs.Role role term ∷ told) spelled = All-cons (CanBeSent shape) (outputs.Role role term) told tt (can_be_sent shape told spelled)
+can_be_sent shape (outputs.Cut index prep ∷ told) spelled = All-cons (CanBeSent shape) (outputs.Cut index prep) told tt (can_be_sent shape told spelled)
+can_be_sent shape (outputs.Whole index ∷ told) spelled = All-cons (CanBeSent shape) (outputs.Whole index) told tt (can_be_sent shape told spelled)
+can_be_sent shape (outputs.Commit index ∷ told) spelled = All-cons (CanBeSent shape) (outputs.Commit index) told tt (can_be_sent shape told spelled)
+can_be_sent shape (outputs.Reply place client seq reply ∷ told) spelled =
+    All-cons (CanBeSent shape) (outputs.Reply place client seq reply) told tt (can_be_sent shape told spelled)
+can_be_sent shape (outputs.Send m ∷ told) spelled =
+    All-cons (CanBeSent shape) (outputs.Send m) told (All-head (HasSpelling shape) m (model.sent_among told) spelled)
+    (can_be_sent shape told (All-tail (HasSpelling shape) m (model.sent_among told) spelled))
 
-kept_back : (body : Peer) → kept_body (body_of body) ≡ body
-kept_back (bodies.Vote last_term last) = refl
-kept_back (bodies.VoteReply granted) = refl
-kept_back (bodies.Append prev prev_term commit entries) = refl
-kept_back (bodies.Matched prev count mask) = refl
-kept_back (bodies.Refused next) = refl
-kept_back (bodies.Ask start) = refl
-kept_back (bodies.Answer start last slots) = refl
-
--- the frame of what the code keeps of a message
-pub frame_kept : (m : plain.Message) → frame_of (kept_message m) ≡ plain.Peer m
-frame_kept m = ap (λ body. plain.Peer (record { sender = m.sender; receiver = m.receiver; term = m.term; body = body })) (body_kept m.body)
-
-message_or : plain.Message → plain.Frame → plain.Message
-message_or other (plain.Peer m) = m
-message_or other _ = other
-
--- a message with the frame of another is what the code keeps of that
-pub message_with_frame : (message : Message) (m : plain.Message) → frame_of message ≡ plain.Peer m → message ≡ kept_message m
-unfolding message_or
-message_with_frame (messages.Peer sender receiver term body) m is =
-    ap (λ b. messages.Peer sender receiver term b) (sym (kept_back body)) ∙ ap (λ frame. kept_message (message_or m frame)) is
-message_with_frame (messages.Request receiver request) m is = cc
-message_with_frame (messages.Answered sender client seq reply) m is = cc
-
-can_be_sent : (group : Parameters) (outputs : List told.Output) → All (HasSpelling group) (model.sent_of outputs) → All (CanBeSent group) (map kept_output outputs)
-can_be_sent group [] spelled = All-nil (CanBeSent group)
-can_be_sent group (told.RoleChange role term ∷ outputs) spelled = All-cons (CanBeSent group) _ _ tt (can_be_sent group outputs spelled)
-can_be_sent group (told.Cut index prepares ∷ outputs) spelled = All-cons (CanBeSent group) _ _ tt (can_be_sent group outputs spelled)
-can_be_sent group (told.BecameWhole index ∷ outputs) spelled = All-cons (CanBeSent group) _ _ tt (can_be_sent group outputs spelled)
-can_be_sent group (told.Committed index ∷ outputs) spelled = All-cons (CanBeSent group) _ _ tt (can_be_sent group outputs spelled)
-can_be_sent group (told.Answers place client seq reply ∷ outputs) spelled = All-cons (CanBeSent group) _ _ tt (can_be_sent group outputs spelled)
-can_be_sent group (told.Send m ∷ outputs) spelled =
-    All-cons (CanBeSent group) _ _
-    (subst (Fits (frame_fields group)) (sym (frame_kept m)) (All-head (HasSpelling group) m (model.sent_of outputs) spelled))
-    (can_be_sent group outputs (All-tail (HasSpelling group) m (model.sent_of outputs) spelled))
-
-all_behind : (P : plain.Message → Type 0) (xs ys : List plain.Message) → All P (xs ++ ys) → All P ys
+all_behind : (P : Message → Type 0) (xs ys : List Message) → All P (xs ++ ys) → All P ys
 all_behind P [] ys all = all
 all_behind P (x ∷ xs) ys all = all_behind P xs ys (All-tail P x (xs ++ ys) all)
 
 -- what a turn sends that leaves all numbers in range
 pub turn_can_send :
-    (group : Parameters) (w : model.World) (member : ℕ) (i : turns.Input) (n : members.Node) → slice_get w.nodes member ≡ Some n →
-    InRange group (model.turn_at w member i).world → (outputs : List Output) → outputs ≡ map kept_output (turns.turn i n).outputs → All (CanBeSent group) outputs
-turn_can_send group w member i n found stays outputs is =
-    let after : InRange group (model.turn_of w member i (Some n)).world = subst (λ here. InRange group (model.turn_of w member i here).world) found stays in
-    subst (All (CanBeSent group)) (sym is)
-    (can_be_sent group (turns.turn i n).outputs (all_behind (HasSpelling group) w.sent (model.sent_of (turns.turn i n).outputs) after.sent))
+    (shape : Shape) (w : model.World) (member : ℕ) (event : turns.Event) (n : Node) → slice_get w.nodes member ≡ Some n →
+    InRange shape (model.turn_at w member event).world → (told : List Output) → told ≡ (turns.turn event n).outputs → All (CanBeSent shape) told
+turn_can_send shape w member event n found stays told is =
+    let after : InRange shape (model.turn_of w member event (Some n)).world = subst (λ here. InRange shape (model.turn_of w member event here).world) found stays in
+    subst (All (CanBeSent shape)) (sym is)
+    (can_be_sent shape (turns.turn event n).outputs (all_behind (HasSpelling shape) w.sent (model.sent_among (turns.turn event n).outputs) after.sent))
+
+-- and what a line makes members send goes from one to another
+turn_sends : (shape : Shape) (w : model.World) (member : ℕ) (event : turns.Event) (here : Option Node) → InRange shape (model.turn_of w member event here).world
+    → All (CanBeSent shape) (model.turn_of w member event here).outputs
+turn_sends shape w member event None r = All-nil (CanBeSent shape)
+turn_sends shape w member event (Some n) r =
+    can_be_sent shape (turns.turn event n).outputs (all_behind (HasSpelling shape) w.sent (model.sent_among (turns.turn event n).outputs) r.sent)
+
+delivery_sends : (shape : Shape) (w : model.World) (frame : Option Message) → InRange shape (model.delivery w frame).world → All (CanBeSent shape) (model.delivery w frame).outputs
+delivery_sends shape w None r = All-nil (CanBeSent shape)
+delivery_sends shape w (Some m) r = turn_sends shape w (receiver_byte m) (turns.Frame m) (slice_get w.nodes (receiver_byte m)) r
+
+line_sends : (shape : Shape) (w : model.World) (line : Line) → InRange shape (model.step w line).world → All (CanBeSent shape) (model.step w line).outputs
+line_sends shape w (Do (inners.Tick member word)) r = turn_sends shape w member (turns.Tick word) (slice_get w.nodes member) r
+line_sends shape w (Do (inners.Take frame)) r = delivery_sends shape w (slice_get w.sent (frame - 1)) r
+
+sends_peer : (shape : Shape) (output : Output) → CanBeSent shape output → SendsPeer output
+sends_peer shape (outputs.Role role term) sent = tt
+sends_peer shape (outputs.Cut index prep) sent = tt
+sends_peer shape (outputs.Whole index) sent = tt
+sends_peer shape (outputs.Commit index) sent = tt
+sends_peer shape (outputs.Reply place client seq reply) sent = tt
+sends_peer shape (outputs.Send m) sent = sent.0
+
+pub line_sends_peers : (shape : Shape) (w : model.World) (line : Line) → InRange shape (model.step w line).world
+    → (told : List Output) → told ≡ (model.step w line).outputs → All SendsPeer told
+line_sends_peers shape w line r told is =
+    subst (All SendsPeer) (sym is)
+    (All-weaker (CanBeSent shape) SendsPeer (sends_peer shape) (model.step w line).outputs (line_sends shape w line r))
 
 -- frames that are read
-pub same_frame : (f g : plain.Frame) → ◌≡◌ {A = Result plain.Frame FrameFault} (Ok f) (Ok g) → f ≡ g
-same_frame f g same = cc
+pub same_message : (f g : Message) → ◌≡◌ {A = Result Message FrameFault} (Ok f) (Ok g) → f ≡ g
+same_message f g same = cc
 
-pub is_no_fault : (f : plain.Frame) (fault : FrameFault) → ◌≡◌ {A = Result plain.Frame FrameFault} (Ok f) (Err fault) → ⊥
+pub is_no_fault : (f : Message) (fault : FrameFault) → ◌≡◌ {A = Result Message FrameFault} (Ok f) (Err fault) → ⊥
 is_no_fault f fault same = cc
 
--- the frame at a place is that of the message there
+-- the frame at a position is that of the message there
 message_at :
-    (group : Parameters) (ms : List plain.Message) (place : ℕ) (bytes : List ℕ) → slice_get (map (frame_bytes group) (map kept_message ms)) place ≡ Some bytes →
-    (m : plain.Message) × (slice_get ms place ≡ Some m) × (bytes ≡ frame_bytes group (kept_message m))
-message_at group [] place bytes found = cc
-message_at group (m ∷ ms) zero bytes found = (m, refl, cc)
-message_at group (m ∷ ms) (suc place) bytes found = message_at group ms place bytes found
+    (shape : Shape) (ms : List Message) (position : ℕ) (bytes : List ℕ) → slice_get (map (frame_bytes shape) ms) position ≡ Some bytes →
+    (m : Message) × (slice_get ms position ≡ Some m) × (bytes ≡ frame_bytes shape m)
+message_at shape [] position bytes found = cc
+message_at shape (m ∷ ms) zero bytes found = (m, refl, cc)
+message_at shape (m ∷ ms) (suc position) bytes found = message_at shape ms position bytes found
 
-none_at : (group : Parameters) (ms : List plain.Message) (place : ℕ) → slice_get (map (frame_bytes group) (map kept_message ms)) place ≡ None → slice_get ms place ≡ None
-none_at group [] place none = refl
-none_at group (m ∷ ms) zero none = cc
-none_at group (m ∷ ms) (suc place) none = none_at group ms place none
+none_at : (shape : Shape) (ms : List Message) (position : ℕ) → slice_get (map (frame_bytes shape) ms) position ≡ None → slice_get ms position ≡ None
+none_at shape [] position none = refl
+none_at shape (m ∷ ms) zero none = cc
+none_at shape (m ∷ ms) (suc position) none = none_at shape ms position none
 
 -- what is read of a frame that was sent
-abbrev pub ReadsSent : Parameters → List ℕ → Message → Type 0
-ReadsSent group bytes found = (m : plain.Message) → HasSpelling group m → bytes ≡ frame_bytes group (kept_message m) → found ≡ kept_message m
+abbrev pub ReadsSent : Shape → List ℕ → Message → Type 0
+ReadsSent shape bytes found = (m : Message) → HasSpelling shape m → bytes ≡ frame_bytes shape m → found ≡ m
 
-spelled_at :
-    (code : World) (w : model.World) → StandsFor code w → (place : ℕ) (m : plain.Message) → slice_get w.sent place ≡ Some m → HasSpelling code.shape m
-spelled_at code w s place m here =
-    subst (HasSpelling code.shape) (get_or_from_slice_get w.sent place m m here) (s.in_range.sent place m (slice_get_within w.sent place m here))
+pub spelled_at :
+    (code : World) (w : model.World) → StandsFor code w → (position : ℕ) (m : Message) → slice_get w.sent position ≡ Some m → HasSpelling code.shape m
+spelled_at code w s position m here =
+    subst (HasSpelling code.shape) (get_or_from_slice_get w.sent position m m here) (s.in_range.sent position m (slice_get_within w.sent position m here))
 
 pub is_sent :
-    (code : World) (place : ℕ) (bytes : List ℕ) → slice_get code.sent.items place ≡ Some bytes → (w : model.World) → StandsFor code w → IsSent code.shape bytes
-is_sent code place bytes here w s =
-    let at = message_at code.shape w.sent place bytes (ap (λ frames. slice_get frames place) (sym s.sent) ∙ here) in
-    (at.0, spelled_at code w s place at.0 at.1, at.2)
+    (code : World) (position : ℕ) (bytes : List ℕ) → slice_get code.sent.items position ≡ Some bytes → (w : model.World) → StandsFor code w → IsSent code.shape bytes
+is_sent code position bytes here w s =
+    let at = message_at code.shape w.sent position bytes (ap (λ frames. slice_get frames position) (sym s.sent) ∙ here) in
+    (at.0, spelled_at code w s position at.0 at.1, at.2)
 
 pub sent_is_read :
-    (code : World) (place : ℕ) (bytes : List ℕ) → slice_get code.sent.items place ≡ Some bytes → (found : Message) → ReadsSent code.shape bytes found →
-    (w : model.World) → StandsFor code w → Some found ≡ kept_frame (slice_get w.sent place)
-sent_is_read code place bytes here found read w s =
-    let at = message_at code.shape w.sent place bytes (ap (λ frames. slice_get frames place) (sym s.sent) ∙ here) in
-    ap Some (read at.0 (spelled_at code w s place at.0 at.1) at.2) ∙ ap kept_frame (sym at.1)
+    (code : World) (position : ℕ) (bytes : List ℕ) → slice_get code.sent.items position ≡ Some bytes → (found : Message) → ReadsSent code.shape bytes found →
+    (w : model.World) → StandsFor code w → Some found ≡ slice_get w.sent position
+sent_is_read code position bytes here found read w s =
+    let at = message_at code.shape w.sent position bytes (ap (λ frames. slice_get frames position) (sym s.sent) ∙ here) in
+    ap Some (read at.0 (spelled_at code w s position at.0 at.1) at.2) ∙ sym at.1
 
-pub unsent_is_none : (code : World) (place : ℕ) → slice_get code.sent.items place ≡ None → (w : model.World) → StandsFor code w → None ≡ kept_frame (slice_get w.sent place)
-unsent_is_none code place none w s = ap kept_frame (sym (none_at code.shape w.sent place (ap (λ frames. slice_get frames place) (sym s.sent) ∙ none)))
+pub unsent_is_none : (code : World) (position : ℕ) → slice_get code.sent.items position ≡ None → (w : model.World) → StandsFor code w → None ≡ slice_get w.sent position
+unsent_is_none code position none w s = sym (none_at code.shape w.sent position (ap (λ frames. slice_get frames position) (sym s.sent) ∙ none))

@@ -2,10 +2,9 @@
 use Rattle.std.proofs.Common.{◌≡◌, ℕ, ◌+◌, ◌≤◌, List, [], ◌∷◌, Bool, cond, map, refl, ap, ◌∙◌, take}
 use Rattle.std.specs.List.{count_by, fold, range_with_len}
 use Rattle.std.proofs.lemmas.List.FromFn.{take-map-range_with_len}
-use Rattle.world_model.specs.Knowledge.{granted_by}
-use Rattle.craft_base.specs.Parameters.{majority_of, members_of}
+use Rattle.craft_base.specs.Knowledge.{Heard, granted_by}
+use Rattle.craft_base.specs.Shape.{majority_of, members_of}
 use Rattle.world_model.specs.Nodes as nodes
-use Rattle.world_model.specs.Nodes.{Heard}
 use Rattle.world_model.specs.Rules.VoteReply.{has_won}
 use Rattle.craft.specs.declared.node.Node.{Node}
 use Rattle.std.specs.Prelude.{nat_le}
@@ -29,10 +28,10 @@ count-kept_voters heard members few =
 pub won_as_kept : (node : Node) (n : nodes.Node) → node ≡ kept_node n → (members counted majority : ℕ) → members ≡ members_of node.shape
     → counted ≡ count_by (λ granted. granted) (take members node.voters.granted) → majority ≡ majority_of node.shape → members ≤ 15
     → nat_le majority (counted + 1) ≡ has_won n
-won_as_kept node n e members counted majority of_group of_voters of_majority few =
-    let in_group : members ≡ members_of n.group = of_group ∙ ap (λ k. members_of k.shape) e in
+won_as_kept node n e members counted majority of_shape of_voters of_majority few =
+    let in_shape : members ≡ members_of n.shape = of_shape ∙ ap (λ k. members_of k.shape) e in
     let votes_counted : counted ≡ count_by (λ member. granted_by member n.volatile.heard) (range_with_len 0 members) =
     of_voters ∙ ap (λ k. count_by (λ granted. granted) (take members k.voters.granted)) e ∙ count-kept_voters n.volatile.heard members few in
-    let all_counted : counted ≡ count_by (λ member. granted_by member n.volatile.heard) (range_with_len 0 (members_of n.group)) =
-    votes_counted ∙ ap (λ k. count_by (λ member. granted_by member n.volatile.heard) (range_with_len 0 k)) in_group in
-    ap (λ k. nat_le k (counted + 1)) (of_majority ∙ ap (λ k. majority_of k.shape) e) ∙ ap (λ k. nat_le (majority_of n.group) (k + 1)) all_counted
+    let all_counted : counted ≡ count_by (λ member. granted_by member n.volatile.heard) (range_with_len 0 (members_of n.shape)) =
+    votes_counted ∙ ap (λ k. count_by (λ member. granted_by member n.volatile.heard) (range_with_len 0 k)) in_shape in
+    ap (λ k. nat_le k (counted + 1)) (of_majority ∙ ap (λ k. majority_of k.shape) e) ∙ ap (λ k. nat_le (majority_of n.shape) (k + 1)) all_counted

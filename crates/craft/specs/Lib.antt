@@ -1,6 +1,5 @@
-pub mod Commands
 pub mod Faults
-pub mod Frames
+pub mod Network
 pub mod Kept
 pub mod Program
 pub mod Replaying

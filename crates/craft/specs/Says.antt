@@ -1,10 +1,10 @@
 -- The messages of the code's node.
 use Rattle.std.specs.Prelude.{ℕ, List, map, filter, not, ◌==◌}
 use Rattle.std.specs.List.{range_with_len}
-use Rattle.craft_base.specs.Parameters.{members_of}
-use Rattle.peer_frames.specs.declared.message.Message.{Message}
-use Rattle.peer_frames.specs.declared.message.Message.TheVariants as messages
-use Rattle.peer_frames.specs.declared.message.Peer.{Peer}
+use Rattle.craft_base.specs.Shape.{members_of}
+use Rattle.entry_frames.specs.declared.message.Message.{Message}
+use Rattle.entry_frames.specs.declared.message.Message.TheVariants as messages
+use Rattle.entry_frames.specs.declared.peer.Peer.{Peer}
 use Rattle.craft.specs.declared.node.Node.{Node}
 
 abbrev pub message_from : Node → Peer → ℕ → Message

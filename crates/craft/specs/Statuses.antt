@@ -8,7 +8,7 @@ use Rattle.fragment_text.specs.declared.split_end.SplitEnd.TheVariants as splits
 use Rattle.craft.specs.declared.replay_end.ReplayEnd.{ReplayEnd}
 use Rattle.craft.specs.declared.replay_end.ReplayEnd.TheVariants as ends
 use Rattle.craft.specs.declared.status.Status.{Status}
-use Rattle.craft.specs.declared.status.Status.TheVariants.{Done, BadWords, BadSchedule, TooFew, SourceFault, SinkFault, NoMemory}
+use Rattle.craft.specs.declared.status.Status.TheVariants.{Done, BadWords, BadSchedule, SourceFault, SinkFault, TooFew, NoMemory}
 
 abbrev pub code_of_status : Status → ℕ
 code_of_status Done = 0
@@ -29,9 +29,9 @@ abbrev pub text_of_status : Status → List ℕ
 text_of_status Done = []
 text_of_status BadWords = codes "craft: bad words\n"
 text_of_status (BadSchedule line) = bad_schedule_line line
-text_of_status (TooFew index) = too_few_line index
 text_of_status SourceFault = codes "craft: source failed\n"
 text_of_status SinkFault = codes "craft: sink failed\n"
+text_of_status (TooFew index) = too_few_line index
 text_of_status NoMemory = codes "craft: out of memory\n"
 
 -- what a replay's end is to the program

@@ -2,8 +2,8 @@
 #![tactic(auto)]
 
 mod adapters;
-mod frames;
-mod lines;
+mod event_text;
+mod network;
 mod node;
 mod replay;
 mod replay_end;
@@ -28,24 +28,32 @@ const HELP: &str = "\
 usage: craft replay F k < SCHEDULE
        craft split F k < VALUE
        craft join F k < FRAGMENTS
+       craft --help
+       craft --version
 
-Each command is for a group of 2F+1 members that survives F failures (1 to 7)
-and rebuilds a value from any k of its fragments (1 to F+1).
+A cluster has 2F+1 members and survives F failures (1 to 7). Any k fragments of
+a value rebuild it (1 to F+1).
 
-replay runs a schedule in the group, and prints what happens. A schedule has one
-event a line:
+replay runs a schedule in a cluster, and prints what happens. A schedule has one
+event a line, and each line ends with a line feed alone:
 
-  tick i word   time passes at member i; the word chooses how long it waits
-  take m        frame m is delivered
+  tick i word   time passes at member i, 0 to 2F; with a word from 0 to 2^64-1
+                it stands for election after 3 + word mod 8 quiet ticks
+  take m        frame m, 1 to 2^64-1, is delivered; it may be taken again
 
 split prints the fragments of a value of at most 32,768 bytes, one a line. join
-reads such lines, any k of them or more, and writes the value.
+reads such lines, the value line and any k fragments or more, and writes the
+value. Nothing has a checksum: join can't tell a damaged fragment from a good
+one, and then writes a wrong value with status 0.
 
-Exit status: 0 done, 2 bad words, 3 bad input, 6 the input failed, 7 the output
-failed, 11 too few fragments, 12 out of memory.
+Exit status: 0 done, 2 bad words, 3 bad input, at the line that is told, 6 the
+input could not be read, 7 the output could not be written (it is full, or its
+reader is gone), 11 too few fragments, 12 out of memory.
+
+example: printf 'tick 0 0\\ntick 0 0\\ntick 0 0\\n' | craft replay 1 1
 ";
 
-const VERSION: &str = "craft 0.1.0\n";
+const VERSION: &str = "craft 0.1.0, for rattle-kit-13f\n";
 
 fn main(rt: HostRuntime) -> ExitCode {
     let status = match command_words(&rt) {

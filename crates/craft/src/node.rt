@@ -12,7 +12,7 @@ mod turn;
 mod vote;
 mod vote_reply;
 
-pub use turn::Input;
+pub use turn::Event;
 
 /// Where a log ends: the term and the index of its last entry, 0 and 0 where it is empty.
 #[derive(Clone, Copy, Debug, PartialEq, Eq)]
@@ -21,7 +21,7 @@ pub struct LogEnd {
     pub index: u64,
 }
 
-/// A member of the group.
+/// A member of the cluster.
 #[derive(Drop)]
 pub struct Node {
     shape: Shape,
@@ -44,7 +44,8 @@ pub struct Node {
 
 impl Node {
     ghost use Rattle.craft.specs.Kept.{kept_node};
-    ghost use Rattle.world_model.specs.Nodes.{started, born};
+    ghost use Rattle.entry_frames.specs.Durable.{born};
+    ghost use Rattle.world_model.specs.Nodes.{started};
 
     /// A member that has never run before.
     pub fn new(shape: Shape, me: MemberId) -> Node

@@ -1,16 +1,16 @@
 //! The replay of a schedule: a line is read, its event is carried out, and its text is written, one after the other.
-ghost use Rattle.std.specs.Prelude.{◌≡◌, ◌≤◌, ◌⊎◌, is_some, IfOk, IfErr, OnOk};
+ghost use Rattle.std.specs.Prelude.{◌≡◌, ◌≤◌, ◌+◌, ◌⊎◌, is_some, IfOk, IfErr, OnOk};
 ghost use Rattle.std.specs.Io.KnownBytes.{Appends};
-ghost use Rattle.craft_base.specs.Parameters.{Parameters};
+ghost use Rattle.craft_base.specs.Shape.{Shape};
 ghost use Rattle.craft_edge.specs.Causes.{Rose};
 ghost use Rattle.world_model.specs.Lines.{event_text};
+ghost use Rattle.world_model.specs.Schedule.{most_lines};
 ghost use Rattle.world_model.specs.World as model;
 ghost use Rattle.craft.specs.declared.replay_end.ReplayEnd.TheVariants.{SinkFault, NoMemory};
 ghost use Rattle.craft.specs.Replaying.{ReadsEvent, ReadsNone, Ends};
 ghost use Rattle.craft.specs.Worlds.{Stands, StandsFor};
-ghost use Rattle.schedule_text.specs.Events.{line_of_event};
 
-use crate::lines::push_event;
+use crate::event_text::push_event;
 use crate::replay_end::ReplayEnd;
 use crate::world::World;
 use craft_base::Shape;
@@ -18,11 +18,9 @@ use craft_edge::{Sink, Source, write_all};
 use line_input::{LineEnd, read_line};
 use schedule_text::{Line, LineFault};
 use std::alloc::Global;
+use world_model::MOST_LINES;
 
-/// The most lines of a schedule.
-const MOST_LINES: u64 = 1_000_000;
-
-/// Runs the schedule of a source in a group that has never run before, and writes the text of each event as it is
+/// Runs the schedule of a source in a cluster that has never run before, and writes the text of each event as it is
 /// carried out.
 pub fn replay<S: Source, O: Sink>(
     alloc: Global,
@@ -73,7 +71,7 @@ fn next_event<S: Source>(
     src: &mut S,
     line: &mut Vec<u8>,
 ) -> Result<Option<Line>, ReplayEnd>
-    requires { number ≤ 1_000_000 }
+    requires { number ≤ most_lines }
     ensures read { IfOk result (ReadsEvent shape.now number (S.left src.old) (S.left src.new)) }
     ensures failed { IfErr result (ReadsNone shape.now number (S.left src.old) (S.faults src.old) (S.faults src.new)) }
     ensures told { is_some (S.left src.new) ≡ is_some (S.left src.old) }
@@ -92,8 +90,8 @@ fn next_event<S: Source>(
 
 /// Any line past the last that a schedule may have is bad.
 fn past_the_last<S: Source>(src: &mut S, line: &mut Vec<u8>) -> Result<(), ReplayEnd>
-    ensures read { OnOk result ((group : Parameters) → ReadsEvent group 1_000_001 (S.left src.old) (S.left src.new) None) }
-    ensures failed { (group : Parameters) → IfErr result (ReadsNone group 1_000_001 (S.left src.old) (S.faults src.old) (S.faults src.new)) }
+    ensures read { OnOk result ((shape : Shape) → ReadsEvent shape (most_lines + 1) (S.left src.old) (S.left src.new) None) }
+    ensures failed { (shape : Shape) → IfErr result (ReadsNone shape (most_lines + 1) (S.left src.old) (S.faults src.old) (S.faults src.new)) }
     ensures told { is_some (S.left src.new) ≡ is_some (S.left src.old) }
     ensures later { S.faults src.old ≤ S.faults src.new }
 {
@@ -114,8 +112,8 @@ fn print_event<O: Sink>(
     out: &mut O,
 ) -> Result<(), ReplayEnd>
     requires { Stands world.old }
-    ensures world { OnOk result ((e : model.Event) (w : model.World) → asked.now ≡ line_of_event e → StandsFor world.old w → StandsFor world.new (model.step w e).world) }
-    ensures text { OnOk result ((e : model.Event) (w : model.World) → asked.now ≡ line_of_event e → StandsFor world.old w → Appends (O.taken out.old) (O.taken out.new) (event_text number w (model.step w e))) }
+    ensures world { OnOk result ((w : model.World) → StandsFor world.old w → StandsFor world.new (model.step w asked.now).world) }
+    ensures text { OnOk result ((w : model.World) → StandsFor world.old w → Appends (O.taken out.old) (O.taken out.new) (event_text number w (model.step w asked.now))) }
     ensures failed { IfErr result (λ e. (e ≡ NoMemory) ⊎ ((e ≡ SinkFault) × Rose (O.faults out.old) (O.faults out.new))) }
     ensures told { is_some (O.taken out.new) ≡ is_some (O.taken out.old) }
     ensures later { O.faults out.old ≤ O.faults out.new }

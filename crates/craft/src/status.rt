@@ -16,12 +16,12 @@ pub enum Status {
     BadWords,
     /// The first bad line of the input. The text of the events before it has been written.
     BadSchedule { line: u64 },
-    /// `join`: every line is good, and there are fewer part lines than are needed; their number.
-    TooFew { index: u64 },
     /// The input failed.
     SourceFault,
     /// The output failed.
     SinkFault,
+    /// `join`: every line is good, and there are fewer part lines than are needed; their number.
+    TooFew { index: u64 },
     /// No memory was left.
     NoMemory,
 }
@@ -92,9 +92,9 @@ pub fn text_of(alloc: Global, status: &Status) -> Result<Blob, OutOfMemory>
         Status::Done => Blob::copy_of(alloc, b""),
         Status::BadWords => Blob::copy_of(alloc, b"craft: bad words\n"),
         Status::BadSchedule { line } => bad_schedule_text(alloc, *line),
-        Status::TooFew { index } => too_few_text(alloc, *index),
         Status::SourceFault => Blob::copy_of(alloc, b"craft: source failed\n"),
         Status::SinkFault => Blob::copy_of(alloc, b"craft: sink failed\n"),
+        Status::TooFew { index } => too_few_text(alloc, *index),
         Status::NoMemory => Blob::copy_of(alloc, b"craft: out of memory\n"),
     }
 }

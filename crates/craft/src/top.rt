@@ -2,18 +2,19 @@
 ghost use Rattle.std.specs.Prelude.{◌≡◌, ◌↔◌, ℕ, length, map, None, Some, Ok, IfOk, string_bytes, vec_len};
 ghost use Rattle.craft_edge.specs.Causes.{Rose};
 ghost use Rattle.world_model.specs.Words as commands;
-ghost use Rattle.craft.specs.Commands.{kept_command};
+ghost use Rattle.world_model.specs.declared.command.Command as command_types;
 ghost use Rattle.craft.specs.Program.{paths, place, Answers};
 
 use crate::replay::replay;
 use crate::status::Status;
-use crate::words::{Command, plan};
+use crate::words::plan;
 use craft_base::OutOfMemory;
 use craft_edge::{Clock, Disk, Link, Sink, Source};
 use fragment_text::{join, split};
 use std::alloc::Global;
+use world_model::Command;
 
-/// Does what the words ask for, and hands the disks back. Each command is for a group that survives F failures and needs k
+/// Does what the words ask for, and hands the disks back. Each command is for a cluster that survives F failures and needs k
 /// fragments of a value. `replay F k` runs the schedule that the source gives, and writes the text of the run to the sink.
 /// `split F k` writes a value's fragments as text. `join F k` reads such a text and writes the value.
 pub fn craft<S: Source, O: Sink, D: Disk, L: Link, C: Clock>(
@@ -28,7 +29,7 @@ pub fn craft<S: Source, O: Sink, D: Disk, L: Link, C: Clock>(
     requires { vec_len disks ≡ length (paths (map string_bytes words.now)) }
 
     // What each status means, by the command: over a source and a sink that tell their bytes, what was read and written.
-    ensures answers { (command : commands.Command) → commands.plan (map string_bytes words.now) ≡ Some command → Answers command
+    ensures answers { (command : command_types.Command) → commands.plan (map string_bytes words.now) ≡ Some command → Answers command
         (record { left = S.left src.old; taken = O.taken out.old; source_faults = S.faults src.old; sink_faults = O.faults out.old })
         (record { left = S.left src.new; taken = O.taken out.new; source_faults = S.faults src.new; sink_faults = O.faults out.new }) result.0 }
 
@@ -51,7 +52,7 @@ pub fn craft<S: Source, O: Sink, D: Disk, L: Link, C: Clock>(
 
 /// Carries a command out.
 fn run<S: Source, O: Sink>(alloc: Global, command: &Command, src: &mut S, out: &mut O) -> Status
-    ensures { (asked : commands.Command) → command.now ≡ kept_command asked → Answers asked
+    ensures { Answers command.now
         (record { left = S.left src.old; taken = O.taken out.old; source_faults = S.faults src.old; sink_faults = O.faults out.old })
         (record { left = S.left src.new; taken = O.taken out.new; source_faults = S.faults src.new; sink_faults = O.faults out.new }) result }
 {

@@ -4,7 +4,7 @@ ghost use Rattle.std.specs.List.{count_by};
 
 use craft_base::MemberId;
 
-/// The most members that a group can have.
+/// The most members that a cluster can have.
 pub const MAX_MEMBERS: usize = 15;
 
 /// The members whose granted vote was heard, each counted once.

@@ -1,25 +1,19 @@
-//! A whole group and its network: each event of a schedule is one turn of one member.
+//! A whole cluster and its network: each event of a schedule is one turn of one member.
 ghost use Rattle.std.specs.Prelude.{◌≡◌, ◌<◌, ◌++◌, ◌∷◌, [], IfOk, OnOk};
-ghost use Rattle.craft_base.specs.Parameters.{members_of};
-ghost use Rattle.world_model.specs.Nodes.{started, born};
-ghost use Rattle.world_model.specs.Spelling.{IsGroup};
-ghost use Rattle.entry_frames.specs.Messages as plain;
-ghost use Rattle.craft.specs.Kept.{kept_node, kept_message};
+ghost use Rattle.craft_base.specs.Shape.{members_of};
+ghost use Rattle.entry_frames.specs.Durable.{born};
+ghost use Rattle.entry_frames.specs.MessageParts.{IsPeer, receiver_byte};
+ghost use Rattle.world_model.specs.Nodes.{started};
+ghost use Rattle.craft_base.specs.Shape.{IsShape};
+ghost use Rattle.craft.specs.Kept.{kept_node};
 
-use crate::frames::{keep_messages, message_in};
-use crate::node::{Input, Node};
+use crate::network::{keep_messages, message_in};
+use crate::node::{Event, Node};
 use craft_base::{Blob, MemberId, OutOfMemory, Shape};
 use peer_frames::{Message, Output};
 use schedule_text::{Inner, Line};
 use std::alloc::Global;
-
-/// Whether an event was carried out.
-#[derive(Clone, Copy, Debug, PartialEq, Eq)]
-pub enum Verdict {
-    Done,
-    /// The frame isn't sent yet.
-    NoFrame,
-}
+use world_model::Verdict;
 
 /// What is told of an event.
 #[derive(Drop)]
@@ -30,7 +24,7 @@ pub struct Happened {
     pub outputs: Vec<Output>,
 }
 
-/// The members of a group, and every message that they ever sent, as the bytes of its frame. A frame that is never taken
+/// The members of a cluster, and every message that they ever sent, as the bytes of its frame. A frame that is never taken
 /// is lost.
 #[derive(Drop)]
 pub struct World {
@@ -40,19 +34,18 @@ pub struct World {
 }
 
 impl World {
-    ghost use Rattle.craft.specs.Worlds.{Stands, StandsFor, TellsOf, TurnsInRange, kept_frame};
-    ghost use Rattle.craft.specs.Turns.{kept_input};
+    ghost use Rattle.craft.specs.Worlds.{Stands, StandsFor, TellsOf, TurnsInRange};
+    ghost use Rattle.craft.specs.Turns.{event_of};
     ghost use Rattle.world_model.specs.Ranges.{InRange};
-    ghost use Rattle.schedule_text.specs.Events.{line_of_event};
     ghost use Rattle.world_model.specs.World as model;
-    ghost use Rattle.world_model.specs.Turn as turns;
+    ghost use Rattle.world_model.specs.declared.line.Inner.TheVariants as inners;
     ghost use Rattle.std.specs.Prelude.{ℕ, ◌-◌, ◌^◌, length, slice_get};
 
-    /// A group of which each member runs, and none has ever run before.
+    /// A cluster of which each member runs, and none has ever run before.
     pub fn new(alloc: Global, shape: &Shape) -> Result<World, OutOfMemory>
-        ensures { IfOk result (λ world. StandsFor world (model.start shape.now)) }
+        ensures start { IfOk result (λ world. StandsFor world (model.start shape.now)) }
+        ensures range { IfOk result (λ _. IsShape shape.now) }
     {
-        is_group(shape);
         let mut nodes = Vec::new(alloc);
         for number in 0..shape.members() {
             add_member(shape, number, &mut nodes)?;
@@ -75,8 +68,8 @@ impl World {
     /// Carries out the event of one line. After an error the world is of no more use.
     pub fn step(&mut self, alloc: Global, line: &Line) -> Result<Happened, OutOfMemory>
         requires { Stands self.old }
-        ensures world { OnOk result ((e : model.Event) (w : model.World) → line.now ≡ line_of_event e → StandsFor self.old w → StandsFor self.new (model.step w e).world) }
-        ensures told { IfOk result (λ happened. (e : model.Event) (w : model.World) → line.now ≡ line_of_event e → StandsFor self.old w → TellsOf happened (model.step w e)) }
+        ensures world { OnOk result ((w : model.World) → StandsFor self.old w → StandsFor self.new (model.step w line.now).world) }
+        ensures told { IfOk result (λ happened. (w : model.World) → StandsFor self.old w → TellsOf happened (model.step w line.now)) }
     {
         match line {
             Line::Do(Inner::Tick { member, word }) => self.tick(alloc, *member, *word),
@@ -87,28 +80,24 @@ impl World {
     /// Lets time pass at a member.
     fn tick(&mut self, alloc: Global, member: MemberId, word: u64) -> Result<Happened, OutOfMemory>
         requires { Stands self.old }
-        ensures world { OnOk result ((w : model.World) → StandsFor self.old w → StandsFor self.new (model.step w (model.TickAt member word)).world) }
-        ensures told { IfOk result (λ happened. (w : model.World) → StandsFor self.old w → TellsOf happened (model.step w (model.TickAt member word))) }
+        ensures world { OnOk result ((w : model.World) → StandsFor self.old w → StandsFor self.new (model.step_of w (inners.Tick member word)).world) }
+        ensures told { IfOk result (λ happened. (w : model.World) → StandsFor self.old w → TellsOf happened (model.step_of w (inners.Tick member word))) }
     {
-        let happened = self.turn_at(alloc, member, &Input::Tick { word })?;
+        let happened = self.turn_at(alloc, member, &Event::Tick { word })?;
         Ok(happened)
     }
 
     /// Delivers a frame to its receiver, if it was sent.
     fn deliver(&mut self, alloc: Global, frame: u64) -> Result<Happened, OutOfMemory>
         requires { Stands self.old }
-        ensures world { OnOk result ((w : model.World) → StandsFor self.old w → StandsFor self.new (model.step w (model.Take frame)).world) }
-        ensures told { IfOk result (λ happened. (w : model.World) → StandsFor self.old w → TellsOf happened (model.step w (model.Take frame))) }
+        ensures world { OnOk result ((w : model.World) → StandsFor self.old w → StandsFor self.new (model.step_of w (inners.Take frame)).world) }
+        ensures told { IfOk result (λ happened. (w : model.World) → StandsFor self.old w → TellsOf happened (model.step_of w (inners.Take frame))) }
     {
         let found = self.frame(alloc, frame)?;
         match found {
             None => Ok(nothing(alloc, Verdict::NoFrame)),
             Some(message) => {
-                let happened = self.turn_at(
-                    alloc,
-                    receiver_of(&message),
-                    &Input::Deliver(message),
-                )?;
+                let happened = self.turn_at(alloc, receiver_of(&message), &Event::Frame(message))?;
                 Ok(happened)
             }
         }
@@ -117,10 +106,10 @@ impl World {
     /// The message in the frame of that number, if it was sent.
     fn frame(&self, alloc: Global, number: u64) -> Result<Option<Message>, OutOfMemory>
         requires { Stands self.now }
-        ensures { IfOk result (λ found. (w : model.World) → StandsFor self.now w → found ≡ kept_frame (slice_get w.sent (number - 1))) }
+        ensures { IfOk result (λ found. (w : model.World) → StandsFor self.now w → found ≡ slice_get w.sent (number - 1)) }
     {
-        let place = number.saturating_sub(1) as usize;
-        match self.sent.get(place) {
+        let position = number.saturating_sub(1) as usize;
+        match self.sent.get(position) {
             Some(frame) => Ok(Some(message_in(alloc, &self.shape, frame.as_bytes())?)),
             None => Ok(None),
         }
@@ -131,17 +120,17 @@ impl World {
         &mut self,
         alloc: Global,
         member: MemberId,
-        input: &Input,
+        event: &Event,
     ) -> Result<Happened, OutOfMemory>
-        requires { TurnsInRange self.old member input.now }
-        ensures world { OnOk result ((i : turns.Input) (w : model.World) → input.now ≡ kept_input i → StandsFor self.old w → InRange self.old.shape (model.turn_at w member i).world → StandsFor self.new (model.turn_at w member i).world) }
-        ensures told { IfOk result (λ happened. (i : turns.Input) (w : model.World) → input.now ≡ kept_input i → StandsFor self.old w → TellsOf happened (model.turn_at w member i)) }
+        requires { TurnsInRange self.old member event.now }
+        ensures world { OnOk result ((w : model.World) → StandsFor self.old w → InRange self.old.shape (model.turn_at w member (event_of event.now)).world → StandsFor self.new (model.turn_at w member (event_of event.now)).world) }
+        ensures told { IfOk result (λ happened. (w : model.World) → StandsFor self.old w → TellsOf happened (model.turn_at w member (event_of event.now))) }
     {
-        let place = usize::from(member.number());
-        if place >= self.nodes.len() {
+        let position = usize::from(member.number());
+        if position >= self.nodes.len() {
             return Ok(nothing(alloc, Verdict::Done));
         }
-        let outputs = self.nodes[place].turn(alloc, input)?;
+        let outputs = self.nodes[position].turn(alloc, event)?;
         keep_messages(alloc, &self.shape, &mut self.sent, &outputs)?;
         Ok(Happened {
             verdict: Verdict::Done,
@@ -162,14 +151,6 @@ fn add_member(shape: &Shape, number: u8, nodes: &mut Vec<Node>) -> Result<(), Ou
     Ok(())
 }
 
-/// A shape's numbers are those of a group.
-fn is_group(shape: &Shape)
-    ensures { IsGroup shape.now }
-{
-    shape.faults();
-    shape.need();
-}
-
 /// Nobody's turn came.
 fn nothing(alloc: Global, verdict: Verdict) -> Happened
     ensures verdict { result.verdict ≡ verdict }
@@ -183,12 +164,13 @@ fn nothing(alloc: Global, verdict: Verdict) -> Happened
     }
 }
 
-/// To whom a message goes.
+/// To whom a message of one member to another goes.
 fn receiver_of(message: &Message) -> MemberId
-    ensures { (m : plain.Message) → message.now ≡ kept_message m → result ≡ m.receiver }
+    requires { IsPeer message.now }
+    ensures { result ≡ receiver_byte message.now }
 {
     match message {
-        Message::Peer { to, .. } | Message::Request { to, .. } => *to,
-        Message::Answered { from, .. } => *from,
+        Message::Peer { to, .. } => *to,
+        Message::Request { .. } | Message::Answered { .. } => unreachable!(),
     }
 }

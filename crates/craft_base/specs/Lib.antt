@@ -1,3 +1,4 @@
-pub mod Parameters
+pub mod Shape
 pub mod Parts
 pub mod Shapes
+pub mod Knowledge

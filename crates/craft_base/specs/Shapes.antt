@@ -1,4 +1,4 @@
--- Which numbers make a group.
+-- Which numbers make a shape.
 use Rattle.std.specs.Prelude.{ℕ, ◌+◌, ◌&&◌, nat_le, if◌then◌else◌, Result, Ok, Err}
 use Rattle.craft_base.specs.declared.shape.Shape.{Shape}
 use Rattle.craft_base.specs.declared.shape.ShapeError.{ShapeError}

@@ -1,15 +1,15 @@
 ghost use Rattle.std.specs.Prelude.{◌≡◌, ◌≤◌, ◌+◌};
-ghost use Rattle.craft_base.specs.Parameters.{members_of, majority_of, coded_quorum_of};
+ghost use Rattle.craft_base.specs.Shape.{IsShape, members_of, majority_of, coded_quorum_of};
 
 use std::error::Error;
 use std::fmt;
 use std::marker::Model;
 
-/// The most failures that a group can be made to survive.
+/// The most failures that a cluster can be made to survive.
 pub const MAX_FAULTS: u8 = 7;
 
-/// The fixed parameters of a group, after CRaft: it survives the loss of F members, it has 2F+1, and k fragments of a
-/// value rebuild it.
+/// The shape of a cluster, after CRaft: it survives the loss of F members, it has 2F+1, and k fragments of a value rebuild
+/// it.
 #[derive(Clone, Copy, Debug, PartialEq, Eq)]
 pub struct Shape {
     faults: u8,
@@ -17,19 +17,18 @@ pub struct Shape {
 }
 
 impl Model for Shape {
-    ghost use Rattle.std.specs.Prelude.{◌≤◌, ◌+◌};
-    ghost use Rattle.craft_base.specs.Parameters.{Parameters};
+    ghost use Rattle.craft_base.specs.Shape.{Shape, IsShape};
 
-    ghost Value = { Parameters };
+    ghost Value = { Shape };
 
     ghost view = { λ shape. record { faults = shape.faults; need = shape.need } };
 
-    ghost invariant = { λ shape. (1 ≤ shape.faults) × (shape.faults ≤ 7) × (1 ≤ shape.need) × (shape.need ≤ shape.faults + 1) };
+    ghost invariant = { λ shape. IsShape (record { faults = shape.faults; need = shape.need }) };
 
-    ghost inverse = { λ group. record { faults = group.faults; need = group.need } };
+    ghost inverse = { λ shape. record { faults = shape.faults; need = shape.need } };
 }
 
-/// Why two numbers make no group.
+/// Why two numbers make no shape.
 #[derive(Clone, Copy, Debug, PartialEq, Eq)]
 pub enum ShapeError {
     /// F isn't 1 to 7.
@@ -52,7 +51,7 @@ impl Error for ShapeError {}
 impl Shape {
     ghost use Rattle.craft_base.specs.Shapes.{shape_from};
 
-    /// The group that survives `f` failures and rebuilds a value from `k` fragments. `BadFaults` exactly where `f` isn't
+    /// The shape of a cluster that survives `f` failures and rebuilds a value from `k` fragments. `BadFaults` exactly where `f` isn't
     /// 1 to 7; `BadNeed` exactly where `f` is and `k` isn't 1 to `f + 1`.
     pub fn new(f: u8, k: u8) -> Result<Shape, ShapeError>
         ensures { result ≡ shape_from f k }
@@ -66,10 +65,18 @@ impl Shape {
         Ok(Shape { faults: f, need: k })
     }
 
-    /// How many failures the group survives: 1 to 7.
+    /// The law of shapes, for a caller that asks for none of its numbers: 1 to 7 failures, and 1 to one more fragments.
+    pub fn law(&self)
+        ensures { IsShape self.now }
+    {
+        let _ = &self.faults;
+    }
+
+    /// How many failures the cluster survives: 1 to 7.
     pub fn faults(&self) -> u8
         ensures value { result ≡ self.now.faults }
         ensures range { (1 ≤ result) × (result ≤ 7) }
+        ensures law { IsShape self.now }
     {
         self.faults
     }
@@ -78,14 +85,16 @@ impl Shape {
     pub fn need(&self) -> u8
         ensures value { result ≡ self.now.need }
         ensures range { (1 ≤ result) × (result ≤ self.now.faults + 1) }
+        ensures law { IsShape self.now }
     {
         self.need
     }
 
-    /// How many members the group has: 2F+1, which is 3 to 15.
+    /// How many members the cluster has: 2F+1, which is 3 to 15.
     pub fn members(&self) -> u8
         ensures value { result ≡ members_of self.now }
         ensures range { (3 ≤ result) × (result ≤ 15) }
+        ensures law { IsShape self.now }
     {
         2 * self.faults + 1
     }
@@ -94,6 +103,7 @@ impl Shape {
     pub fn majority(&self) -> u8
         ensures value { result ≡ majority_of self.now }
         ensures range { (2 ≤ result) × (result ≤ 8) }
+        ensures law { IsShape self.now }
     {
         self.faults + 1
     }
@@ -102,6 +112,7 @@ impl Shape {
     pub fn coded_quorum(&self) -> u8
         ensures value { result ≡ coded_quorum_of self.now }
         ensures range { (2 ≤ result) × (result ≤ members_of self.now) }
+        ensures law { IsShape self.now }
     {
         self.faults + self.need
     }

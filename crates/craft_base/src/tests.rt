@@ -1,3 +1,6 @@
+ghost use Rattle.std.specs.Prelude.{◌<◌};
+
+use super::heard_list::{HeardList, Item, What};
 use super::*;
 use std::test::Fail;
 
@@ -25,7 +28,7 @@ fn other_numbers_make_no_shape(rt: HostRuntime) {
 }
 
 #[test]
-fn a_group_has_the_members_below_its_size(rt: HostRuntime) -> Result<(), Fail> {
+fn a_shape_has_the_members_below_its_size(rt: HostRuntime) -> Result<(), Fail> {
     let shape = Shape::new(1, 2)?;
     assert_eq!(rt; MemberId::new(&shape, 2).ok_or("member 2")?.number(), 2);
     assert_eq!(rt; MemberId::new(&shape, 3), None);
@@ -58,5 +61,51 @@ fn a_blob_is_its_bytes(rt: HostRuntime) -> Result<(), Fail> {
     let mut bytes = Vec::new(rt.alloc());
     bytes.push(3)?;
     assert_eq!(rt; Blob::of(bytes).as_bytes(), [3].as_slice());
+    Ok(())
+}
+
+/// What is known of a member by way of the trait: its match and next index, and its forms at 2, 3 and 4.
+fn known_of<K: Known>(known: &K, member: MemberId) -> (u64, u64, [Held; 3])
+    requires { K.settled_to known.now < 2 }
+{
+    let forms = [
+        known.form_at(member, 2),
+        known.form_at(member, 3),
+        known.form_at(member, 4),
+    ];
+    (known.match_of(member), known.next_of(member), forms)
+}
+
+#[test]
+fn what_was_heard_tells_of_the_others(rt: HostRuntime) -> Result<(), Fail> {
+    let shape = Shape::new(1, 2)?;
+    let one = MemberId::new(&shape, 1).ok_or("member 1")?;
+    let two = MemberId::new(&shape, 2).ok_or("member 2")?;
+    let mut items = Vec::new(rt.alloc());
+    // the latest first: a reply that says too much, two beats, and what came before
+    for what in [
+        What::Matched(one, 3, 2, 2, 3),
+        What::Beat,
+        What::Matched(one, 3, 1, 2, 2),
+        What::Beat,
+        What::Refused(two, 3, 2),
+        What::Refused(two, 3, 3),
+    ] {
+        items.push(Item::new(what))?;
+    }
+    let known = HeardList {
+        shape,
+        items,
+        first: 4,
+    };
+    assert_eq!(rt;
+        known_of(&known, one),
+        (3, 4, [Held::Part, Held::Whole, Held::Nothing])
+    );
+    assert_eq!(rt;
+        known_of(&known, two),
+        (0, 2, [Held::Nothing, Held::Nothing, Held::Nothing])
+    );
+    assert_eq!(rt; (known.fresh_count(), known.settled()), (1, 0));
     Ok(())
 }

@@ -6,3 +6,4 @@ pub mod Rises
 mod SinkLemmas
 mod SliceLemmas
 mod SourceLemmas
+pub mod StreamLemmas

@@ -11,3 +11,4 @@ pub mod MemSink
 pub mod MemSource
 pub mod Packets
 pub mod Readings
+pub mod Streams

@@ -20,7 +20,7 @@ pub length-spoiled_where : (test : ℕ → Bool) (offset : ℕ) (held : List ℕ
 length-spoiled_where test offset [] = refl
 length-spoiled_where test offset (b ∷ held) = omega (arith, length-spoiled_where test (offset + 1) held)
 
-get_or-spoiled_where : (test : ℕ → Bool) (offset i at : ℕ) (held : List ℕ) → i < length held → at ≡ offset + i → get_or (spoiled_where test offset held) i 0 ≡ spoiled_byte (test at) held i
+pub get_or-spoiled_where : (test : ℕ → Bool) (offset i at : ℕ) (held : List ℕ) → i < length held → at ≡ offset + i → get_or (spoiled_where test offset held) i 0 ≡ spoiled_byte (test at) held i
 get_or-spoiled_where test offset i at [] lt e = absurd (omega arith)
 get_or-spoiled_where test offset zero at (b ∷ held) lt e = let same : offset ≡ at = omega (arith, e) in ap (λ (k : ℕ). if test k then 255 - b else b) same
 get_or-spoiled_where test offset (suc i) at (b ∷ held) lt e = get_or-spoiled_where test (offset + 1) i at held (omega (arith, lt)) (omega (arith, e))

@@ -4,4 +4,5 @@ pub mod Kept
 pub mod MemDisk
 pub mod Noted
 pub mod Replay
+pub mod Stopped
 pub mod Told

@@ -1,8 +1,7 @@
 ghost use Rattle.std.specs.Prelude.{◌≡◌};
 ghost use Rattle.world_model.specs.Rules.Tick.{is_due};
 
-/// The greatest term; no election starts a higher one.
-const LAST_TERM: u64 = 1 << 62;
+use entry_frames::GREATEST;
 
 /// The fewest quiet ticks after which a member stands, and how many more a word can ask for.
 const SHORTEST_WAIT: u64 = 3;
@@ -14,5 +13,5 @@ const WAIT_CHOICES: u64 = 8;
 pub fn starts(quiet: u64, word: u64, term: u64) -> bool
     ensures { result ≡ is_due quiet word term }
 {
-    quiet >= SHORTEST_WAIT + word % WAIT_CHOICES && term < LAST_TERM
+    quiet >= SHORTEST_WAIT + word % WAIT_CHOICES && term < GREATEST
 }

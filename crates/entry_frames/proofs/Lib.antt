@@ -4,3 +4,6 @@ pub mod Entries
 pub mod Records
 pub mod Groups
 pub mod Logs
+pub mod Batches
+pub mod Bodies
+pub mod Durable

@@ -20,8 +20,8 @@ pub none_at : (views : List Viewed) (index place : ℕ) → index ≡ suc place 
 none_at views index place is none = entry_at_of views index place is ∙ ap (option_map (λ (x : Viewed). x.entry)) none
 
 abbrev some_view : Entry → ℕ → Option Viewed
-some_view entry need = Some (record { need = need; entry = entry })
+some_view entry k = Some (record { k = k; entry = entry })
 
-pub viewed_at : (need : ℕ) (views : List Viewed) (index place : ℕ) (v : Viewed) → index ≡ suc place → slice_get views place ≡ Some v → v.need ≡ need
-    → Some v ≡ viewed_with need (entry_at (entries_of views) index)
-viewed_at need views index place v is found same = ap (some_view v.entry) same ∙ sym (ap (viewed_with need) (found_at views index place v is found))
+pub viewed_at : (k : ℕ) (views : List Viewed) (index place : ℕ) (v : Viewed) → index ≡ suc place → slice_get views place ≡ Some v → v.k ≡ k
+    → Some v ≡ viewed_with k (entry_at (entries_of views) index)
+viewed_at k views index place v is found same = ap (some_view v.entry) same ∙ sym (ap (viewed_with k) (found_at views index place v is found))

@@ -1,11 +1,11 @@
 -- What outlives a crash, and what records do to it.
 use Rattle.std.specs.Prelude.{◌≡◌, ◌⊎◌, ℕ, zero, suc, ◌-◌, ◌<◌, ◌≤◌, List, [], ◌∷◌, ◌++◌, length, take, None, Some, Option}
-use Rattle.craft_base.specs.Parameters.{Parameters, members_of}
+use Rattle.craft_base.specs.Shape.{Shape, members_of}
 use Rattle.craft_base.specs.declared.command.Entry.{Entry}
 use Rattle.craft_base.specs.declared.command.Form.{Form}
 use Rattle.craft_base.specs.declared.command.Form.TheVariants as forms
 use Rattle.entry_frames.specs.Limits.{greatest, last_place}
-use Rattle.entry_frames.specs.Logs.{entry_at, term_at}
+use Rattle.entry_frames.specs.Logs.{entry_at, last_term}
 use Rattle.entry_frames.specs.Records.{Record, Term, Add, Cut, Whole, Commit}
 
 -- what a member keeps
@@ -22,24 +22,24 @@ born = record { term = 0; vote = None; log = []; commit = 0 }
 -- ---- where a record can be applied
 
 -- a later term, or a member's vote in the present one, which has none yet
-abbrev pub IsVoter : Parameters → Option ℕ → Type 0
-IsVoter group None = ⊥
-IsVoter group (Some member) = member < members_of group
+abbrev pub IsVoter : Shape → Option ℕ → Type 0
+IsVoter shape None = ⊥
+IsVoter shape (Some member) = member < members_of shape
 
 pub record IsLaterTerm (d : Durable) (term : ℕ) : Type 0 where
   pub least : 1 ≤ term
   pub most : term ≤ greatest
   pub later : d.term < term
 
-pub record IsFirstVote (group : Parameters) (d : Durable) (term : ℕ) (vote : Option ℕ) : Type 0 where
+pub record IsFirstVote (shape : Shape) (d : Durable) (term : ℕ) (vote : Option ℕ) : Type 0 where
   pub same : term ≡ d.term
   pub none_yet : d.vote ≡ None
-  pub voter : IsVoter group vote
+  pub voter : IsVoter shape vote
 
 -- an entry whose term is one from that of the last entry to the present one
 pub record IsNextEntry (d : Durable) (entry : Entry) : Type 0 where
   pub room : length d.log < last_place
-  pub no_earlier : term_at d.log (length d.log) ≤ entry.term
+  pub no_earlier : last_term d.log ≤ entry.term
   pub no_later : entry.term ≤ d.term
 
 -- an index behind those that are committed
@@ -56,12 +56,12 @@ abbrev pub LacksValue : Option Entry → ℕ → Type 0
 LacksValue None value_length = ⊥
 LacksValue (Some entry) value_length = IsPartOf entry.form entry.head.vlen value_length
 
-abbrev pub CanApply : Parameters → Durable → Record → Type 0
-CanApply group d (Term term vote) = IsLaterTerm d term ⊎ IsFirstVote group d term vote
-CanApply group d (Add entry) = IsNextEntry d entry
-CanApply group d (Cut index) = IsUncommitted d index
-CanApply group d (Whole index bytes) = LacksValue (entry_at d.log index) (length bytes)
-CanApply group d (Commit index) = IsUncommitted d index
+abbrev pub CanApply : Shape → Durable → Record → Type 0
+CanApply shape d (Term term vote) = IsLaterTerm d term ⊎ IsFirstVote shape d term vote
+CanApply shape d (Add entry) = IsNextEntry d entry
+CanApply shape d (Cut index) = IsUncommitted d index
+CanApply shape d (Whole index bytes) = LacksValue (entry_at d.log index) (length bytes)
+CanApply shape d (Commit index) = IsUncommitted d index
 
 -- ---- what it does
 
@@ -92,6 +92,6 @@ after d [] = d
 after d (r ∷ records) = after (applied d r) records
 
 -- each of them can be applied to what those before it leave
-abbrev pub CanApplyAll : Parameters → Durable → List Record → Type 0
-CanApplyAll group d [] = Unit {0}
-CanApplyAll group d (r ∷ records) = CanApply group d r × CanApplyAll group (applied d r) records
+abbrev pub CanApplyAll : Shape → Durable → List Record → Type 0
+CanApplyAll shape d [] = Unit {0}
+CanApplyAll shape d (r ∷ records) = CanApply shape d r × CanApplyAll shape (applied d r) records

@@ -52,10 +52,10 @@ abbrev pub form_with : Tag → List ℕ → Form
 form_with Whole bytes = forms.Whole bytes
 form_with Part bytes = forms.Part bytes
 
--- how many bytes of the value are held: all, or one of the fragments any `need` of which rebuild it
+-- how many bytes of the value are held: all, or one of the fragments any `k` of which rebuild it
 abbrev pub held_length : ℕ → Tag → ℕ → ℕ
-held_length need Whole value_length = value_length
-held_length need Part value_length = part_length value_length need
+held_length k Whole value_length = value_length
+held_length k Part value_length = part_length value_length k
 
 -- ---- ranges that depend on the tag and the operation
 
@@ -77,7 +77,7 @@ least_value tag = if is_part tag then 1 else 0
 
 -- the fields from the term on; the term lies between two others
 abbrev pub entry_fields_of : ℕ → ℕ → ℕ → Tag → OpKind → Format Entry
-entry_fields_of need low high tag kind =
+entry_fields_of k low high tag kind =
     Number true U64 (within 1 greatest) (λ e. e.term) λ term.
     Test (within low high term) 10 (
     Number true U64 (within (least_asked kind) (greatest_asked kind greatest)) (λ e. e.head.client) λ client.
@@ -86,23 +86,23 @@ entry_fields_of need low high tag kind =
     Number true U8 (within (least_asked kind) (greatest_asked kind 255)) (λ e. length e.head.key) λ key_length.
     Bytes key_length (λ e. e.head.key) λ key.
     Number (row kind).sets U32 (within (least_value tag) longest_value) (λ e. e.head.vlen) λ value_length.
-    Bytes (held_length need tag value_length) (λ e. form_bytes e.form) λ bytes.
+    Bytes (held_length k tag value_length) (λ e. form_bytes e.form) λ bytes.
     Value (record {
       term = term;
       head = record { client = client; seq = seq; op = op_with kind expected; key = key; vlen = value_length };
       form = form_with tag bytes;
     }))
 
--- an entry, any `need` fragments of whose value rebuild it, with a term between two others
+-- an entry, any `k` fragments of whose value rebuild it, with a term between two others
 abbrev pub entry_fields_in : ℕ → ℕ → ℕ → Format Entry
-entry_fields_in need low high =
+entry_fields_in k low high =
     Number true U8 is_tag_byte (λ e. tag_byte (tag_of e.form)) λ tag.
     Number true U8 (is_op_byte_under (tag_with tag)) (λ e. op_byte e.head.op) λ op.
-    entry_fields_of need low high (tag_with tag) (op_kind_with op)
+    entry_fields_of k low high (tag_with tag) (op_kind_with op)
 
 -- the same with any term
 abbrev pub entry_fields : ℕ → Format Entry
-entry_fields need = entry_fields_in need 0 greatest
+entry_fields k = entry_fields_in k 0 greatest
 
 -- how many bytes a number takes
 abbrev pub number_room : Bool → Unsigned → ℕ

@@ -73,7 +73,7 @@ Fits (Number stands unsigned in_range part next) v = FitsNumber stands unsigned 
 Fits (Bytes count part next) v = (length (part v) ≡ count) × Fits (next (part v)) v
 Fits (Test passes back next) v = (passes ≡ true) × Fits next v
 
--- a format with another one in place of a part of its value: first the fields of that part, and then those that depend on it
+-- a format with another one in cursor of a part of its value: first the fields of that part, and then those that depend on it
 abbrev pub embed : {A V : Type 0} → Format A → (V → A) → (A → Format V) → Format V
 embed (Value value) part next = next value
 embed (Number stands unsigned in_range inner rest) part next = Number stands unsigned in_range (λ v. inner (part v)) (λ n. embed (rest n) part next)
@@ -81,64 +81,64 @@ embed (Bytes count inner rest) part next = Bytes count (λ v. inner (part v)) (�
 embed (Test passes back rest) part next = Test passes back (embed rest part next)
 
 -- what is left of a frame, and at which offset of it that begins
-pub record Place : Type 0 where
+pub record Cursor : Type 0 where
   pub at : ℕ
   pub rest : List ℕ
 
 -- what is left are bytes, and not more than memory has
-pub record IsPlace (place : Place) : Type 0 where
-  pub room : place.at + length place.rest < 2 ^ 63
-  pub bytes : AreBytes place.rest
+pub record IsCursor (cursor : Cursor) : Type 0 where
+  pub room : cursor.at + length cursor.rest < 2 ^ 63
+  pub bytes : AreBytes cursor.rest
 
--- the place that many bytes later
-abbrev pub behind : ℕ → Place → Place
-behind count place = record { at = place.at + count; rest = drop count place.rest }
+-- the cursor that many bytes later
+abbrev pub behind : ℕ → Cursor → Cursor
+behind count cursor = record { at = cursor.at + count; rest = drop count cursor.rest }
 
--- what was read, and the place behind it
+-- what was read, and the cursor behind it
 pub record Taken (A : Type 0) : Type 0 where
   pub value : A
-  pub place : Place
+  pub cursor : Cursor
 
 infixl 10 ◌>>=◌
 abbrev pub ◌>>=◌ : {A B : Type 0} → Result A FrameFault → (A → Result B FrameFault) → Result B FrameFault
 (Ok x) >>= f = f x
 (Err e) >>= f = Err e
 
--- The field at a place, or its fault: the bytes end inside it, or it is whole and out of range.
+-- The field at a cursor, or its fault: the bytes end inside it, or it is whole and out of range.
 abbrev pub in_range_at : (ℕ → Bool) → ℕ → Taken ℕ → Result (Taken ℕ) FrameFault
 in_range_at in_range at taken = if in_range taken.value then Ok taken else Err (Bad at)
 
-abbrev pub any_number_at : Unsigned → Place → Result (Taken ℕ) FrameFault
-any_number_at unsigned place =
-    if nat_lt (length place.rest) (size_of unsigned) then Err Short
-    else Ok (record { value = from_be_bytes (width_of unsigned) (take (size_of unsigned) place.rest); place = behind (size_of unsigned) place })
+abbrev pub any_number_at : Unsigned → Cursor → Result (Taken ℕ) FrameFault
+any_number_at unsigned cursor =
+    if nat_lt (length cursor.rest) (size_of unsigned) then Err Short
+    else Ok (record { value = from_be_bytes (width_of unsigned) (take (size_of unsigned) cursor.rest); cursor = behind (size_of unsigned) cursor })
 
-abbrev pub number_at : Bool → Unsigned → (ℕ → Bool) → Place → Result (Taken ℕ) FrameFault
-number_at false unsigned in_range place = Ok (record { value = 0; place = place })
-number_at true unsigned in_range place = any_number_at unsigned place >>= in_range_at in_range place.at
+abbrev pub number_at : Bool → Unsigned → (ℕ → Bool) → Cursor → Result (Taken ℕ) FrameFault
+number_at false unsigned in_range cursor = Ok (record { value = 0; cursor = cursor })
+number_at true unsigned in_range cursor = any_number_at unsigned cursor >>= in_range_at in_range cursor.at
 
-abbrev pub bytes_at : ℕ → Place → Result (Taken (List ℕ)) FrameFault
-bytes_at count place =
-    if nat_lt (length place.rest) count then Err Short
-    else Ok (record { value = take count place.rest; place = behind count place })
+abbrev pub bytes_at : ℕ → Cursor → Result (Taken (List ℕ)) FrameFault
+bytes_at count cursor =
+    if nat_lt (length cursor.rest) count then Err Short
+    else Ok (record { value = take count cursor.rest; cursor = behind count cursor })
 
-abbrev pub test_at : Bool → ℕ → Place → Result Place FrameFault
-test_at passes back place = if passes then Ok place else Err (Bad (place.at - back))
+abbrev pub test_at : Bool → ℕ → Cursor → Result Cursor FrameFault
+test_at passes back cursor = if passes then Ok cursor else Err (Bad (cursor.at - back))
 
--- The value that the bytes at a place begin with and the place behind it, or the first fault from left to right.
-abbrev pub reading : {V : Type 0} → Format V → Place → Result (Taken V) FrameFault
-reading (Value value) place = Ok (record { value = value; place = place })
-reading (Number stands unsigned in_range part next) place = number_at stands unsigned in_range place >>= λ n. reading (next n.value) n.place
-reading (Bytes count part next) place = bytes_at count place >>= λ bytes. reading (next bytes.value) bytes.place
-reading (Test passes back next) place = test_at passes back place >>= λ place'. reading next place'
+-- The value that the bytes at a cursor begin with and the cursor behind it, or the first fault from left to right.
+abbrev pub reading : {V : Type 0} → Format V → Cursor → Result (Taken V) FrameFault
+reading (Value value) cursor = Ok (record { value = value; cursor = cursor })
+reading (Number stands unsigned in_range part next) cursor = number_at stands unsigned in_range cursor >>= λ n. reading (next n.value) n.cursor
+reading (Bytes count part next) cursor = bytes_at count cursor >>= λ bytes. reading (next bytes.value) bytes.cursor
+reading (Test passes back next) cursor = test_at passes back cursor >>= λ cursor'. reading next cursor'
 
 -- the front of a frame
-abbrev pub front_of : List ℕ → Place
+abbrev pub front_of : List ℕ → Cursor
 front_of bytes = record { at = 0; rest = bytes }
 
 -- what all of the bytes say; bytes behind the last field are out of range
 abbrev pub without_rest : {V : Type 0} → Taken V → Result V FrameFault
-without_rest taken = if nat_lt 0 (length taken.place.rest) then Err (Bad taken.place.at) else Ok taken.value
+without_rest taken = if nat_lt 0 (length taken.cursor.rest) then Err (Bad taken.cursor.at) else Ok taken.value
 
 abbrev pub reading_all : {V : Type 0} → Format V → List ℕ → Result V FrameFault
 reading_all format bytes = reading format (front_of bytes) >>= without_rest

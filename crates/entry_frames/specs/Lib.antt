@@ -1,4 +1,5 @@
 pub mod Faults
+pub mod Batches
 pub mod Formats
 pub mod Steps
 pub mod Limits
@@ -8,10 +9,10 @@ pub mod Views
 pub mod Replies
 pub mod Records
 pub mod RecordViews
-pub mod Messages
-pub mod Outputs
 pub mod Logs
 pub mod Kinds
 pub mod MessageParts
 pub mod MessageFields
 pub mod Durable
+pub mod Bodies
+pub mod Bulk

@@ -4,9 +4,9 @@ use Rattle.craft_base.specs.declared.command.Entry.{Entry}
 use Rattle.entry_frames.specs.Limits.{last_place}
 use Rattle.entry_frames.specs.Views.{Viewed}
 
--- the log of a group with that need, and the index up to which it is committed
+-- the log of a cluster with that k, and the index up to which it is committed
 pub record Log : Type 0 where
-  pub need : ℕ
+  pub k : ℕ
   pub entries : List Entry
   pub commit : ℕ
 
@@ -28,6 +28,14 @@ term_of_entry (Some entry) = entry.term
 abbrev pub term_at : List Entry → ℕ → ℕ
 term_at entries index = term_of_entry (entry_at entries index)
 
+-- the index of the last entry, 0 where there is none
+abbrev pub last_index : List Entry → ℕ
+last_index entries = length entries
+
+-- the term of the last entry, 0 where there is none
+abbrev pub last_term : List Entry → ℕ
+last_term entries = term_at entries (last_index entries)
+
 abbrev pub viewed_with : ℕ → Option Entry → Option Viewed
-viewed_with need None = None
-viewed_with need (Some entry) = Some (record { need = need; entry = entry })
+viewed_with k None = None
+viewed_with k (Some entry) = Some (record { k = k; entry = entry })

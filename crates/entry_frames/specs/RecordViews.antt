@@ -11,7 +11,7 @@ record_of (views.Cut index) = Cut index
 record_of (views.Whole index bytes) = Whole index bytes.now
 record_of (views.Commit index) = Commit index
 
--- an entry that it adds is one of a group with that need
-abbrev pub NeedIs : ℕ → RecordView → Type 0
-NeedIs need (views.Add entry) = entry.need ≡ need
-NeedIs need _ = Unit {0}
+-- an entry that it adds is one of a cluster with that k
+abbrev pub HasK : ℕ → RecordView → Type 0
+HasK k (views.Add entry) = entry.k ≡ k
+HasK k _ = Unit {0}

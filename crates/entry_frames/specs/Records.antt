@@ -91,19 +91,19 @@ value_fields =
     Value (Whole index bytes)
 
 abbrev pub record_fields_of : ℕ → RecordKind → Format Record
-record_fields_of need kinds.Term = term_fields
-record_fields_of need kinds.Add = embed (entry_fields need) added λ entry. Value (Add entry)
-record_fields_of need kinds.Cut = Number true U64 (within 1 last_place) first_number λ index. Value (Cut index)
-record_fields_of need kinds.Whole = value_fields
-record_fields_of need kinds.Commit = Number true U64 (within 1 last_place) first_number λ index. Value (Commit index)
+record_fields_of k kinds.Term = term_fields
+record_fields_of k kinds.Add = embed (entry_fields k) added λ entry. Value (Add entry)
+record_fields_of k kinds.Cut = Number true U64 (within 1 last_place) first_number λ index. Value (Cut index)
+record_fields_of k kinds.Whole = value_fields
+record_fields_of k kinds.Commit = Number true U64 (within 1 last_place) first_number λ index. Value (Commit index)
 
 abbrev pub record_fields : ℕ → Format Record
-record_fields need = Number true U8 is_record_byte (λ r. record_byte (record_kind r)) λ byte. record_fields_of need (record_kind_with byte)
+record_fields k = Number true U8 is_record_byte (λ r. record_byte (record_kind r)) λ byte. record_fields_of k (record_kind_with byte)
 
 -- a list of records, one after the other
 abbrev pub record_spellings : ℕ → List Record → List ℕ
-record_spellings need [] = []
-record_spellings need (r ∷ records) = spelling (record_fields need) r ++ record_spellings need records
+record_spellings k [] = []
+record_spellings k (r ∷ records) = spelling (record_fields k) r ++ record_spellings k records
 
 -- what stands behind a gate: the length of a body, the body, and the next gate, which is closed
 abbrev pub group_bytes : List ℕ → List ℕ

@@ -2,20 +2,10 @@
 use Rattle.std.specs.Prelude.{ℕ, Bool, true, false, Option, None, Some, List, [], ◌∷◌, length, ◌==◌, ◌||◌, nat_lt, if◌then◌else◌}
 use Rattle.craft_base.specs.declared.command.Reply.{Reply}
 use Rattle.craft_base.specs.declared.command.Reply.TheVariants as replies
+use Rattle.entry_frames.specs.declared.reply_kind.ReplyKind.{ReplyKind}
+use Rattle.entry_frames.specs.declared.reply_kind.ReplyKind.TheVariants.{Done, Differs, Gone, Found, Nothing, Old, Elsewhere, Preparing, Busy, Full}
 use Rattle.entry_frames.specs.Formats.{Format, Value, Number, Bytes, U8, U32, U64, within}
 use Rattle.entry_frames.specs.Limits.{last_place, longest_value}
-
-pub data ReplyKind : Type 0 where
-  Done : ReplyKind
-  Differs : ReplyKind
-  Gone : ReplyKind
-  Found : ReplyKind
-  Nothing : ReplyKind
-  Old : ReplyKind
-  Elsewhere : ReplyKind
-  Preparing : ReplyKind
-  Busy : ReplyKind
-  Full : ReplyKind
 
 abbrev pub reply_byte : ReplyKind → ℕ
 reply_byte Done = 1
@@ -93,7 +83,7 @@ abbrev pub hint_byte : Reply → ℕ
 hint_byte (replies.Elsewhere hint) = member_byte hint
 hint_byte _ = 0
 
--- the fields of a reply of each kind, in a group of so many members
+-- the fields of a reply of each kind, in a cluster of so many members
 abbrev pub reply_fields_of : ℕ → ReplyKind → Format Reply
 reply_fields_of members Done = Number true U64 (within 0 last_place) version_told λ version. Value (replies.Done version)
 reply_fields_of members Differs = Number true U64 (within 0 last_place) version_told λ version. Value (replies.Differs version)

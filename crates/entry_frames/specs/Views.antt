@@ -15,15 +15,15 @@ entry_of parts =
     }
 
 -- how many fragments rebuild a value
-abbrev pub IsNeed : ℕ → Type 0
-IsNeed need = (1 ≤ need) × (need ≤ 8)
+abbrev pub IsK : ℕ → Type 0
+IsK k = (1 ≤ k) × (k ≤ 8)
 
 -- an entry, and how many fragments rebuild its value
 pub record Viewed : Type 0 where
-  pub need : ℕ
+  pub k : ℕ
   pub entry : Entry
 
 -- it meets the ranges
 pub record IsInRange (viewed : Viewed) : Type 0 where
-  pub need : IsNeed viewed.need
-  pub fits : Fits (entry_fields viewed.need) viewed.entry
+  pub k : IsK viewed.k
+  pub fits : Fits (entry_fields viewed.k) viewed.entry

@@ -1,9 +1,10 @@
 //! The parts of an entry, as they lie in a frame.
-ghost use Rattle.std.specs.Prelude.{◌≡◌, ◌≤◌, ◌^◌};
+ghost use Rattle.std.specs.Prelude.{◌≡◌, ◌≤◌};
 ghost use Rattle.entry_frames.specs.Formats.{reading};
 ghost use Rattle.entry_frames.specs.Entries.{entry_fields_of, least_asked, greatest_asked, least_value, held_length};
+ghost use Rattle.entry_frames.specs.Limits.{greatest};
 ghost use Rattle.entry_frames.specs.Steps.{Reads};
-ghost use Rattle.entry_frames.specs.Views.{entry_of, IsNeed};
+ghost use Rattle.entry_frames.specs.Views.{entry_of, IsK};
 
 use crate::fault::FrameFault;
 use crate::fields::Fields;
@@ -29,15 +30,15 @@ impl<'a> EntryParts<'a> {
     /// Reads the parts behind the tag and the operation, with a term from `low` to `high`.
     pub fn read(
         fields: &mut Fields<'a>,
-        need: u8,
+        k: u8,
         low: u64,
         high: u64,
         tag: Tag,
         kind: OpKind,
     ) -> Result<EntryParts<'a>, FrameFault>
-        requires needs { IsNeed need }
+        requires needs { IsK k }
         requires behind { 2 ≤ fields.old.at }
-        ensures { Reads entry_of result fields.new (reading (entry_fields_of need low high tag kind) fields.old) }
+        ensures { Reads entry_of result fields.new (reading (entry_fields_of k low high tag kind) fields.old) }
     {
         let least = least_asked(kind);
         let term = fields.u64(1, GREATEST)?;
@@ -48,7 +49,7 @@ impl<'a> EntryParts<'a> {
         let key_len = fields.byte(least as u8, longest_key(kind))?;
         let key = fields.bytes(usize::from(key_len))?;
         let vlen = fields.u32_if(kind.sets(), least_value(tag), LONGEST_VALUE)?;
-        let bytes = fields.bytes(held_len(need, tag, vlen))?;
+        let bytes = fields.bytes(held_len(k, tag, vlen))?;
         Ok(EntryParts {
             term,
             client,
@@ -72,7 +73,7 @@ fn least_asked(kind: OpKind) -> u64
 
 /// The greatest number of a client and of a request.
 fn greatest_asked(kind: OpKind) -> u64
-    ensures { result ≡ greatest_asked kind (2 ^ 62) }
+    ensures { result ≡ greatest_asked kind greatest }
 {
     if kind.is_asked() { GREATEST } else { 0 }
 }
@@ -95,12 +96,12 @@ fn least_value(tag: Tag) -> u32
 }
 
 /// How many bytes of a value of that length are held.
-pub fn held_len(need: u8, tag: Tag, vlen: u32) -> usize
-    requires { IsNeed need }
-    ensures { result ≡ held_length need tag vlen }
+pub fn held_len(k: u8, tag: Tag, vlen: u32) -> usize
+    requires { IsK k }
+    ensures { result ≡ held_length k tag vlen }
 {
     match tag {
         Tag::Whole => vlen as usize,
-        Tag::Part => part_len(vlen as usize, need),
+        Tag::Part => part_len(vlen as usize, k),
     }
 }

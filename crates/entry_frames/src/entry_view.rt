@@ -15,7 +15,7 @@ use std::marker::Model;
 /// docs/FORMATS.md, "An entry".
 #[derive(Drop)]
 pub struct EntryView<'a> {
-    need: u8,
+    k: u8,
     parts: EntryParts<'a>,
 }
 
@@ -24,9 +24,9 @@ impl<'a> Model for EntryView<'a> {
 
     ghost Value = { Viewed };
 
-    ghost view = { λ v. record { need = v.need; entry = entry_of v.parts } };
+    ghost view = { λ v. record { k = v.k; entry = entry_of v.parts } };
 
-    ghost invariant = { λ v. IsInRange (record { need = v.need; entry = entry_of v.parts }) };
+    ghost invariant = { λ v. IsInRange (record { k = v.k; entry = entry_of v.parts }) };
 }
 
 impl<'a> EntryView<'a> {
@@ -34,20 +34,20 @@ impl<'a> EntryView<'a> {
     ghost use Rattle.entry_frames.specs.Entries.{entry_fields, entry_fields_in, form_bytes, is_whole, tag_of, entry_room};
     ghost use Rattle.entry_frames.specs.Formats.{Fits, front_of, spelling, reading};
     ghost use Rattle.entry_frames.specs.Steps.{Reads, ReadsTo};
-    ghost use Rattle.entry_frames.specs.Views.{IsNeed, IsInRange};
+    ghost use Rattle.entry_frames.specs.Views.{IsK, IsInRange};
 
     /// Lends the parts of an entry. It takes no memory.
     pub fn of(k: u8, entry: &'a Entry) -> EntryView<'a>
-        requires needs { IsNeed k }
+        requires needs { IsK k }
         requires fits { Fits (entry_fields k) entry.now }
-        ensures { result ≡ record { need = k; entry = entry.now } }
+        ensures { result ≡ record { k = k; entry = entry.now } }
     {
         let (tag, bytes) = match &entry.form {
             Form::Whole(bytes) => (Tag::Whole, bytes.as_bytes()),
             Form::Part(bytes) => (Tag::Part, bytes.as_bytes()),
         };
         EntryView {
-            need: k,
+            k: k,
             parts: EntryParts {
                 term: entry.term,
                 client: entry.head.client,
@@ -63,11 +63,11 @@ impl<'a> EntryView<'a> {
 
     /// Reads the entry with which the bytes begin, and how many bytes it takes. Else the first fault from left to right.
     pub fn read(k: u8, bytes: &'a [u8]) -> Result<(EntryView<'a>, usize), FrameFault>
-        requires needs { IsNeed k }
+        requires needs { IsK k }
 
         // It is what the bytes spell, or the first field that ends past them or is out of range.
         ensures exact { ReadsTo (λ x. x.0.entry) (λ x. record { at = x.1; rest = drop x.1 bytes.now }) result (reading (entry_fields k) (front_of bytes.now)) }
-        ensures need { IfOk result (λ x. x.0.need ≡ k) }
+        ensures need { IfOk result (λ x. x.0.k ≡ k) }
 
         // What is read is spelled so.
         ensures found { IfOk result (λ x. Fits (entry_fields k) x.0.entry × (bytes.now ≡ spelling (entry_fields k) x.0.entry ++ drop x.1 bytes.now)) }
@@ -75,16 +75,16 @@ impl<'a> EntryView<'a> {
 
         // What is spelled so is read, whatever follows it.
         ensures only { (e : Entry) (rest : List ℕ) → Fits (entry_fields k) e → bytes.now ≡ spelling (entry_fields k) e ++ rest
-            → ReadsTo (λ x. x.0.entry) (λ x. record { at = x.1; rest = drop x.1 bytes.now }) result (Ok (record { value = e; place = record { at = length (spelling (entry_fields k) e); rest = rest } })) }
+            → ReadsTo (λ x. x.0.entry) (λ x. record { at = x.1; rest = drop x.1 bytes.now }) result (Ok (record { value = e; cursor = record { at = length (spelling (entry_fields k) e); rest = rest } })) }
     {
         EntryView::at_front(k, bytes)
     }
 
     /// The entry with which the bytes begin, and how many bytes it takes.
     fn at_front(k: u8, bytes: &'a [u8]) -> Result<(EntryView<'a>, usize), FrameFault>
-        requires needs { IsNeed k }
+        requires needs { IsK k }
         ensures exact { ReadsTo (λ x. x.0.entry) (λ x. record { at = x.1; rest = drop x.1 bytes.now }) result (reading (entry_fields k) (front_of bytes.now)) }
-        ensures need { IfOk result (λ x. x.0.need ≡ k) }
+        ensures need { IfOk result (λ x. x.0.k ≡ k) }
     {
         let mut fields = Fields::of(bytes);
         let entry = EntryView::take(&mut fields, k, 0, GREATEST)?;
@@ -99,15 +99,15 @@ impl<'a> EntryView<'a> {
         low: u64,
         high: u64,
     ) -> Result<EntryView<'a>, FrameFault>
-        requires needs { IsNeed k }
+        requires needs { IsK k }
         ensures exact { Reads (λ view. view.entry) result fields.new (reading (entry_fields_in k low high) fields.old) }
-        ensures need { IfOk result (λ view. view.need ≡ k) }
+        ensures need { IfOk result (λ view. view.k ≡ k) }
     {
         let _rest = fields.rest();
         let tag = Tag::read(fields)?;
         let kind = OpKind::read_under(fields, tag)?;
         let parts = EntryParts::read(fields, k, low, high, tag, kind)?;
-        Ok(EntryView { need: k, parts })
+        Ok(EntryView { k: k, parts })
     }
 
     /// The same view once more.
@@ -115,18 +115,18 @@ impl<'a> EntryView<'a> {
         ensures { result ≡ self.now }
     {
         EntryView {
-            need: self.need,
+            k: self.k,
             parts: self.parts,
         }
     }
 
     /// How many fragments rebuild a value: 1 to 8. With it the entry meets the ranges.
-    pub fn need(&self) -> u8
-        ensures value { result ≡ self.now.need }
-        ensures range { IsNeed result }
-        ensures fits { Fits (entry_fields self.now.need) self.now.entry }
+    pub fn k(&self) -> u8
+        ensures value { result ≡ self.now.k }
+        ensures range { IsK result }
+        ensures fits { Fits (entry_fields self.now.k) self.now.entry }
     {
-        self.need
+        self.k
     }
 
     /// The term of the leader that proposed it: 1 to 2^62.
@@ -195,7 +195,7 @@ impl<'a> EntryView<'a> {
 
     /// How many bytes its spelling has.
     pub fn size(&self) -> usize
-        ensures value { result ≡ length (spelling (entry_fields self.now.need) self.now.entry) }
+        ensures value { result ≡ length (spelling (entry_fields self.now.k) self.now.entry) }
         ensures room { result ≡ entry_room self.now.entry }
     {
         let kind = OpKind::of(self.parts.op);

@@ -16,7 +16,7 @@ pub fn write_entry(
     out: &mut Vec<u8>,
     entry: &EntryView<'_>,
 ) -> Result<(), OutOfMemory>
-    ensures written { OnOk result (out.new.items ≡ out.old.items ++ spelling (entry_fields entry.now.need) entry.now.entry) }
+    ensures written { OnOk result (out.new.items ≡ out.old.items ++ spelling (entry_fields entry.now.k) entry.now.entry) }
     ensures kept { OnErr result (out.new.items ≡ out.old.items) }
 {
     let _ = alloc;
@@ -28,7 +28,7 @@ pub fn write_entry(
 /// Adds the spelling of an entry where there is room.
 fn put_entry(out: &mut Vec<u8>, entry: &EntryView<'_>)
     requires { vec_len out.old + entry_room entry.now.entry ≤ vec_capacity out.old }
-    ensures { out.new.items ≡ out.old.items ++ spelling (entry_fields entry.now.need) entry.now.entry }
+    ensures { out.new.items ≡ out.old.items ++ spelling (entry_fields entry.now.k) entry.now.entry }
 {
     let kind = OpKind::of(entry.op());
     put_byte(out, entry.tag().byte());

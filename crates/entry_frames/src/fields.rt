@@ -15,13 +15,13 @@ pub struct Fields<'a> {
 }
 
 impl<'a> Model for Fields<'a> {
-    ghost use Rattle.entry_frames.specs.Formats.{Place, IsPlace};
+    ghost use Rattle.entry_frames.specs.Formats.{Cursor, IsCursor};
 
-    ghost Value = { Place };
+    ghost Value = { Cursor };
 
     ghost view = { λ fields. record { at = fields.at; rest = fields.rest.now } };
 
-    ghost invariant = { λ fields. IsPlace (record { at = fields.at; rest = fields.rest.now }) };
+    ghost invariant = { λ fields. IsCursor (record { at = fields.at; rest = fields.rest.now }) };
 }
 
 impl<'a> Fields<'a> {

@@ -3,7 +3,7 @@ ghost use Rattle.std.specs.Prelude.{◌≡◌, ◌≤◌, ◌↔◌, ◌++◌, [
 ghost use Rattle.std.specs.Int.{w64, to_be_bytes};
 ghost use Rattle.entry_frames.specs.Formats.{Fits, spelling};
 ghost use Rattle.entry_frames.specs.Records.{record_fields, group_bytes};
-ghost use Rattle.entry_frames.specs.RecordViews.{record_of, NeedIs};
+ghost use Rattle.entry_frames.specs.RecordViews.{record_of, HasK};
 
 use crate::record_view::RecordView;
 use crate::record_writing::push_record;
@@ -60,8 +60,8 @@ impl GroupBuilder {
 
     /// Adds a record's one spelling. The only error is want of memory; the group is then gone.
     pub fn put(self, item: &RecordView<'_>) -> Result<GroupBuilder, OutOfMemory>
-        requires { (need : ℕ) → NeedIs need item.now → Fits (record_fields need) (record_of item.now) }
-        ensures { IfOk result (λ builder. (need : ℕ) → NeedIs need item.now → builder ≡ self ++ spelling (record_fields need) (record_of item.now)) }
+        requires { (k : ℕ) → HasK k item.now → Fits (record_fields k) (record_of item.now) }
+        ensures { IfOk result (λ builder. (k : ℕ) → HasK k item.now → builder ≡ self ++ spelling (record_fields k) (record_of item.now)) }
     {
         let mut bytes = self.bytes;
         push_record(&mut bytes, item)?;

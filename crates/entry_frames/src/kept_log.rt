@@ -1,5 +1,6 @@
 //! A log in memory, for the tests.
 ghost use Rattle.std.specs.Prelude.{◌≡◌, ℕ, Some, length, map, slice_get};
+ghost use Rattle.entry_frames.specs.Limits.{last_place};
 ghost use Rattle.entry_frames.specs.Logs.{IsLog};
 ghost use Rattle.entry_frames.specs.Views.{Viewed};
 
@@ -10,23 +11,23 @@ use std::alloc::{AllocError, Global};
 /// Entries that are lent, and how far they are committed.
 #[derive(Drop)]
 pub struct KeptLog<'a> {
-    need: u8,
+    k: u8,
     views: Vec<EntryView<'a>>,
     commit: u64,
-    ghost is_log: { IsLog (record { need = need; entries = map (λ v. v.entry) views.items; commit = commit }) },
-    ghost same_need: { (i : ℕ) (v : Viewed) → slice_get views.items i ≡ Some v → v.need ≡ need },
+    ghost is_log: { IsLog (record { k = k; entries = map (λ v. v.entry) views.items; commit = commit }) },
+    ghost same_k: { (i : ℕ) (v : Viewed) → slice_get views.items i ≡ Some v → v.k ≡ k },
 }
 
 impl<'a> KeptLog<'a> {
     ghost use Rattle.std.specs.Prelude.{[], ◌<◌, ◌+◌, OnOk};
 
     /// An empty log.
-    pub fn new(alloc: Global, need: u8) -> KeptLog<'a>
+    pub fn new(alloc: Global, k: u8) -> KeptLog<'a>
         ensures empty { result.views.items ≡ [] }
-        ensures need { result.need ≡ need }
+        ensures need { result.k ≡ k }
     {
         KeptLog {
-            need,
+            k,
             views: Vec::new(alloc),
             commit: 0,
         }
@@ -34,9 +35,9 @@ impl<'a> KeptLog<'a> {
 
     /// Adds an entry at the end.
     pub fn push(&mut self, view: EntryView<'a>) -> Result<(), AllocError>
-        requires need { view.need ≡ self.old.need }
-        requires short { length self.old.views.items < 1_000_000 }
-        ensures need { self.new.need ≡ self.old.need }
+        requires need { view.k ≡ self.old.k }
+        requires short { length self.old.views.items < last_place }
+        ensures need { self.new.k ≡ self.old.k }
         ensures len { OnOk result (length self.new.views.items ≡ length self.old.views.items + 1) }
     {
         self.views.push(view)?;
@@ -45,7 +46,7 @@ impl<'a> KeptLog<'a> {
 
     /// Commits up to the last entry.
     pub fn commit_all(&mut self)
-        ensures need { self.new.need ≡ self.old.need }
+        ensures need { self.new.k ≡ self.old.k }
         ensures entries { self.new.views.items ≡ self.old.views.items }
     {
         self.commit = self.views.len() as u64;
@@ -53,7 +54,7 @@ impl<'a> KeptLog<'a> {
 }
 
 impl LogView for KeptLog<'_> {
-    ghost log = { λ s. record { need = s.need; entries = map (λ v. v.entry) s.views.items; commit = s.commit } };
+    ghost log = { λ s. record { k = s.k; entries = map (λ v. v.entry) s.views.items; commit = s.commit } };
 
     ghost is_log = { λ s. s.is_log };
 

@@ -8,3 +8,9 @@ pub const LAST_PLACE: u64 = 1_000_000;
 
 /// The most bytes of a value.
 pub const LONGEST_VALUE: u32 = 32_768;
+
+/// The most entries of a message.
+pub const MOST_ENTRIES: usize = 8;
+
+/// The most bytes of the entries of a message, together.
+pub const MOST_ENTRY_BYTES: usize = 56_000;

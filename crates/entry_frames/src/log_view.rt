@@ -28,5 +28,5 @@ pub trait LogView {
 
     /// The entry at that index, lent; `None` exactly where the index is 0 or past the last one.
     fn at(&self, index: u64) -> Option<EntryView<'_>>
-        ensures { result ≡ viewed_with (log self.now).need (entry_at (log self.now).entries index) };
+        ensures { result ≡ viewed_with (log self.now).k (entry_at (log self.now).entries index) };
 }

@@ -29,17 +29,17 @@ pub enum RecordView<'a> {
 impl<'a> RecordView<'a> {
     ghost use Rattle.entry_frames.specs.Formats.{Fits, front_of, spelling};
     ghost use Rattle.entry_frames.specs.Records.{Record, record_fields, record_fields_of};
-    ghost use Rattle.entry_frames.specs.RecordViews.{record_of, NeedIs};
+    ghost use Rattle.entry_frames.specs.RecordViews.{record_of, HasK};
     ghost use Rattle.entry_frames.specs.Steps.{ReadsTo};
-    ghost use Rattle.entry_frames.specs.Views.{IsNeed};
+    ghost use Rattle.entry_frames.specs.Views.{IsK};
 
     /// Reads the record with which the bytes begin, and how many bytes it takes. Else the first fault from left to right.
     pub fn read(k: u8, bytes: &'a [u8]) -> Result<(RecordView<'a>, usize), FrameFault>
-        requires needs { IsNeed k }
+        requires needs { IsK k }
 
         // It is what the bytes spell, or the first field that ends past them or is out of range.
         ensures exact { ReadsTo (λ x. record_of x.0) (λ x. record { at = x.1; rest = drop x.1 bytes.now }) result (reading (record_fields k) (front_of bytes.now)) }
-        ensures need { IfOk result (λ x. NeedIs k x.0) }
+        ensures need { IfOk result (λ x. HasK k x.0) }
 
         // What is read is spelled so.
         ensures found { IfOk result (λ x. Fits (record_fields k) (record_of x.0) × (bytes.now ≡ spelling (record_fields k) (record_of x.0) ++ drop x.1 bytes.now)) }
@@ -47,16 +47,16 @@ impl<'a> RecordView<'a> {
 
         // What is spelled so is read, whatever follows it.
         ensures only { (r : Record) (rest : List ℕ) → Fits (record_fields k) r → bytes.now ≡ spelling (record_fields k) r ++ rest
-            → ReadsTo (λ x. record_of x.0) (λ x. record { at = x.1; rest = drop x.1 bytes.now }) result (Ok (record { value = r; place = record { at = length (spelling (record_fields k) r); rest = rest } })) }
+            → ReadsTo (λ x. record_of x.0) (λ x. record { at = x.1; rest = drop x.1 bytes.now }) result (Ok (record { value = r; cursor = record { at = length (spelling (record_fields k) r); rest = rest } })) }
     {
         RecordView::at_front(k, bytes)
     }
 
     /// The record with which the bytes begin, and how many bytes it takes.
     fn at_front(k: u8, bytes: &'a [u8]) -> Result<(RecordView<'a>, usize), FrameFault>
-        requires needs { IsNeed k }
+        requires needs { IsK k }
         ensures exact { ReadsTo (λ x. record_of x.0) (λ x. record { at = x.1; rest = drop x.1 bytes.now }) result (reading (record_fields k) (front_of bytes.now)) }
-        ensures need { IfOk result (λ x. NeedIs k x.0) }
+        ensures need { IfOk result (λ x. HasK k x.0) }
     {
         let mut fields = Fields::of(bytes);
         let view = RecordView::take(&mut fields, k)?;
@@ -65,9 +65,9 @@ impl<'a> RecordView<'a> {
 
     /// Reads a record off the front of what is left of a body.
     fn take(fields: &mut Fields<'a>, k: u8) -> Result<RecordView<'a>, FrameFault>
-        requires needs { IsNeed k }
+        requires needs { IsK k }
         ensures exact { Reads record_of result fields.new (reading (record_fields k) fields.old) }
-        ensures need { IfOk result (NeedIs k) }
+        ensures need { IfOk result (HasK k) }
     {
         let kind = RecordKind::read(fields)?;
         RecordView::take_as(fields, k, kind)
@@ -79,9 +79,9 @@ impl<'a> RecordView<'a> {
         k: u8,
         kind: RecordKind,
     ) -> Result<RecordView<'a>, FrameFault>
-        requires needs { IsNeed k }
+        requires needs { IsK k }
         ensures exact { Reads record_of result fields.new (reading (record_fields_of k kind) fields.old) }
-        ensures need { IfOk result (NeedIs k) }
+        ensures need { IfOk result (HasK k) }
     {
         match kind {
             RecordKind::Term => {

@@ -1,8 +1,9 @@
 //! Writing a record.
 ghost use Rattle.std.specs.Prelude.{◌≡◌, ◌≤◌, ◌++◌, ℕ, OnOk, length, true};
 ghost use Rattle.entry_frames.specs.Formats.{U8, U64, Fits, number_bytes, spelling};
+ghost use Rattle.entry_frames.specs.Limits.{longest_value};
 ghost use Rattle.entry_frames.specs.Records.{Term, Whole, record_byte, record_fields};
-ghost use Rattle.entry_frames.specs.RecordViews.{record_of, NeedIs};
+ghost use Rattle.entry_frames.specs.RecordViews.{record_of, HasK};
 
 use crate::entry_writing::write_entry;
 use crate::nobody::member_byte;
@@ -12,8 +13,8 @@ use craft_base::OutOfMemory;
 
 /// Adds the one spelling of a record at the end of a body.
 pub fn push_record(body: &mut Vec<u8>, item: &RecordView<'_>) -> Result<(), OutOfMemory>
-    requires { (need : ℕ) → NeedIs need item.now → Fits (record_fields need) (record_of item.now) }
-    ensures { OnOk result ((need : ℕ) → NeedIs need item.now → body.new.items ≡ body.old.items ++ spelling (record_fields need) (record_of item.now)) }
+    requires { (k : ℕ) → HasK k item.now → Fits (record_fields k) (record_of item.now) }
+    ensures { OnOk result ((k : ℕ) → HasK k item.now → body.new.items ≡ body.old.items ++ spelling (record_fields k) (record_of item.now)) }
 {
     match item {
         RecordView::Term(term, vote) => push_term(body, *term, *vote)?,
@@ -49,7 +50,7 @@ fn push_index(body: &mut Vec<u8>, kind: RecordKind, index: u64) -> Result<(), Ou
 
 /// Adds a whole value for an index.
 fn push_value(body: &mut Vec<u8>, index: u64, bytes: &[u8]) -> Result<(), OutOfMemory>
-    requires { length bytes.now ≤ 32_768 }
+    requires { length bytes.now ≤ longest_value }
     ensures { OnOk result (body.new.items ≡ body.old.items ++ spelling (record_fields 0) (Whole index bytes.now)) }
 {
     push_index(body, RecordKind::Whole, index)?;

@@ -1,8 +1,8 @@
 ghost use Rattle.std.specs.Prelude.{ℕ};
 ghost use Rattle.entry_frames.specs.Formats.{Fits};
 ghost use Rattle.entry_frames.specs.Records.{record_fields};
-ghost use Rattle.entry_frames.specs.RecordViews.{record_of, NeedIs};
-ghost use Rattle.entry_frames.specs.Views.{IsNeed};
+ghost use Rattle.entry_frames.specs.RecordViews.{record_of, HasK};
+ghost use Rattle.entry_frames.specs.Views.{IsK};
 
 use super::*;
 use crate::kept_log::KeptLog;
@@ -12,27 +12,7 @@ use rand_xoshiro::rand_core::{Rng, SeedableRng};
 use std::alloc::{AllocError, Global};
 use std::process::Abort;
 use std::test::Fail;
-
-/// A text without its blanks.
-fn without_blanks(alloc: Global, text: &str) -> Result<String, AllocError> {
-    let mut packed = String::new(alloc);
-    for word in text.split_whitespace() {
-        packed.push_str(word)?;
-    }
-    Ok(packed)
-}
-
-/// The bytes of a text of hexadecimal digits, between which blanks may stand.
-fn bytes_of(alloc: Global, text: &str) -> Result<Vec<u8>, Fail> {
-    Ok(hex::decode(alloc, without_blanks(alloc, text)?)?)
-}
-
-/// Some bytes and then others.
-fn joined(alloc: Global, front: &[u8], rest: &[u8]) -> Result<Vec<u8>, AllocError> {
-    let mut bytes = front.to_vec(alloc)?;
-    bytes.extend_from_slice(rest)?;
-    Ok(bytes)
-}
+use test_text::{bytes_of, joined};
 
 // ---- what isn't read
 
@@ -45,7 +25,7 @@ enum ReadAs {
 
 /// Why the bytes begin with no entry, or with no record.
 fn fault_of(what: ReadAs, k: u8, bytes: &[u8]) -> Option<FrameFault>
-    requires { IsNeed k }
+    requires { IsK k }
 {
     match what {
         ReadAs::Entry => EntryView::read(k, bytes).err(),
@@ -55,7 +35,7 @@ fn fault_of(what: ReadAs, k: u8, bytes: &[u8]) -> Option<FrameFault>
 
 /// Whichever of the bytes are left out at the end, the others end too soon.
 fn is_short_before_its_end(rt: &impl Abort, what: ReadAs, k: u8, bytes: &[u8])
-    requires { IsNeed k }
+    requires { IsK k }
 {
     for end in 0..bytes.len() {
         assert_eq!(rt;
@@ -166,24 +146,24 @@ fn is_made(
     bytes: &[u8],
     want: &str,
 ) -> Result<(), Fail> {
-    let k = view.need();
+    let k = view.k();
     let entry = view.to_entry(alloc)?;
     assert_eq!(rt; entry_text(alloc, &entry)?.as_str(), want);
     let again = EntryView::of(k, &entry);
-    assert_eq!(rt; again.need(), k);
+    assert_eq!(rt; again.k(), k);
     is_shown(rt, alloc, &again, bytes, want)
 }
 
 /// The bytes are read as the entry of the text, whatever follows them, and each of its views is written as they are.
 fn is_entry(rt: &impl Abort, alloc: Global, k: u8, bytes: &[u8], want: &str) -> Result<(), Fail>
-    requires { IsNeed k }
+    requires { IsK k }
 {
     is_short_before_its_end(rt, ReadAs::Entry, k, bytes);
     let longer = joined(alloc, bytes, &[0xff, 0x01])?;
     for frame in [bytes, &longer] {
         let (view, len) = EntryView::read(k, frame)?;
         assert_eq!(rt; len, bytes.len());
-        assert_eq!(rt; view.need(), k);
+        assert_eq!(rt; view.k(), k);
         is_shown(rt, alloc, &view, bytes, want)?;
         is_made(rt, alloc, &view, bytes, want)?;
     }
@@ -245,7 +225,7 @@ fn entries_are_written_as_by_hand(rt: HostRuntime) -> Result<(), Fail> {
 
 /// A Put with the greatest numbers and a key of 255 bytes, of whose value of 32,768 bytes these are held.
 fn is_longest(rt: &impl Abort, alloc: Global, k: u8, tag: Tag, held: &[u8]) -> Result<(), Fail>
-    requires { IsNeed k }
+    requires { IsK k }
 {
     let key = vec![in alloc; 0x6b; 255]?;
     let mut bytes = bytes_of(
@@ -405,7 +385,7 @@ fn record_text(alloc: Global, view: &RecordView<'_>) -> Result<String, AllocErro
 
 /// The bytes of the group of one record.
 fn group_of(alloc: Global, view: &RecordView<'_>) -> Result<Vec<u8>, Fail>
-    requires { (need : ℕ) → NeedIs need view.now → Fits (record_fields need) (record_of view.now) }
+    requires { (k : ℕ) → HasK k view.now → Fits (record_fields k) (record_of view.now) }
 {
     let group = GroupBuilder::new(alloc)?.put(view)?.close()?;
     Ok(group.as_bytes().to_vec(alloc)?)
@@ -413,7 +393,7 @@ fn group_of(alloc: Global, view: &RecordView<'_>) -> Result<Vec<u8>, Fail>
 
 /// The record with which the bytes begin is written back as those that it took; how many they are, 0 where there is none.
 fn record_comes_back(rt: &impl Abort, alloc: Global, k: u8, bytes: &[u8]) -> Result<usize, Fail>
-    requires { IsNeed k }
+    requires { IsK k }
 {
     match RecordView::read(k, bytes) {
         Ok((view, len)) => {
@@ -574,7 +554,7 @@ fn next_bytes(alloc: Global, rng: &mut SplitMix64) -> Result<Vec<u8>, AllocError
 
 /// The entry with which the bytes begin is written back as those that it took; how many they are, 0 where there is none.
 fn entry_comes_back(rt: &impl Abort, alloc: Global, k: u8, bytes: &[u8]) -> Result<usize, Fail>
-    requires { IsNeed k }
+    requires { IsK k }
 {
     match EntryView::read(k, bytes) {
         Ok((view, len)) => {

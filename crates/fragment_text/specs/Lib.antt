@@ -1,7 +1,7 @@
-pub mod Streams
 pub mod Texts
 pub mod Splitting
 pub mod Said
+pub mod Spelling
 pub mod Joining
 pub mod Faults
 pub mod Kept

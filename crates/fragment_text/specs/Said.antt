@@ -1,16 +1,17 @@
 -- What a text of parts says, line by line.
-use Rattle.std.specs.Prelude.{ℕ, ◌+◌, List, [], ◌∷◌, ◌++◌, length, take, Option, None, Some, Result, Ok, Err, Bool, ◌&&◌, ◌==◌, if◌then◌else◌, nat_le, nat_lt, codes}
+use Rattle.std.specs.Prelude.{ℕ, ◌+◌, List, [], ◌∷◌, ◌++◌, length, take, Option, None, Some, Result, Ok, Err, ◌&&◌, ◌==◌, if◌then◌else◌, nat_le, nat_lt, codes}
 use Rattle.std.specs.Char.{is_ascii_uppercase}
 use Rattle.std.specs.List.{slice_split, list_any}
 use Rattle.std.specs.Str.{bytes_eq}
 use Rattle.hex.specs.Hex.{decode_sized}
 use Rattle.hex.specs.declared.error.FromHexError.{FromHexError}
-use Rattle.craft_base.specs.Parameters.{Parameters, members_of}
+use Rattle.craft_base.specs.Shape.{Shape, members_of}
 use Rattle.craft_base.specs.Parts.{part_length}
+use Rattle.entry_frames.specs.Limits.{longest_value}
 use Rattle.rs_code.specs.Rebuilding.{TakenPart, Rebuilding}
+use Rattle.line_input.specs.Lines.{is_whole}
 use Rattle.world_model.specs.Numbers.{number_of}
-use Rattle.world_model.specs.Schedule.{Line, lines_of, longest_line}
-use Rattle.fragment_text.specs.Splitting.{longest_value}
+use Rattle.world_model.specs.Schedule.{TextLine, lines_of}
 
 -- what the lines so far said: the value's length, its parts in order, and the least member whose part may come next
 pub record Said : Type 0 where
@@ -22,10 +23,6 @@ pub record Said : Type 0 where
 pub data Reading : Type 0 where
   Good : Said → Reading
   BadAt : ℕ → Reading
-
--- a line is read only where its line feed stands and it isn't too long
-abbrev pub is_whole : Line → Bool
-is_whole line = line.ended && nat_le (length line.text + 1) longest_line
 
 -- the words of a line, between single blanks
 abbrev pub words_of : List ℕ → List (List ℕ)
@@ -41,7 +38,7 @@ length_of_words (name ∷ count ∷ []) = if bytes_eq name (codes "value") then 
 length_of_words _ = None
 
 -- the value's length that a line tells
-abbrev pub length_at : Line → Option ℕ
+abbrev pub length_at : TextLine → Option ℕ
 length_at line = if is_whole line then length_of_words (words_of line.text) else None
 
 abbrev pub if_decoded : Result (List ℕ) FromHexError → Option (List ℕ)
@@ -54,7 +51,7 @@ bytes_of size digits =
     if size == 0 then (if bytes_eq digits (codes "-") then Some [] else None)
     else (if list_any is_ascii_uppercase digits then None else if_decoded (decode_sized digits size))
 
--- a member of a group of that many, and none of those before `next`
+-- a member of a cluster of that many, and none of those before `next`
 abbrev pub rising_member : ℕ → ℕ → Option ℕ → Option ℕ
 rising_member next members None = None
 rising_member next members (Some member) = if nat_le next member && nat_lt member members then Some member else None
@@ -72,20 +69,20 @@ with_part_of said None bytes = None
 with_part_of said (Some member) None = None
 with_part_of said (Some member) (Some bytes) = Some (with_part said member bytes)
 
--- `part j hex`: members rise, and each part is as long as the value's length and the group's need say
-abbrev pub part_line_of : Parameters → Said → List ℕ → List ℕ → List ℕ → Option Said
-part_line_of group said name member digits =
+-- `part j hex`: members rise, and each part is as long as the value's length and the cluster's need say
+abbrev pub part_line_of : Shape → Said → List ℕ → List ℕ → List ℕ → Option Said
+part_line_of shape said name member digits =
     if bytes_eq name (codes "part")
-    then with_part_of said (rising_member said.next (members_of group) (number_of member)) (bytes_of (part_length said.value_length group.need) digits)
+    then with_part_of said (rising_member said.next (members_of shape) (number_of member)) (bytes_of (part_length said.value_length shape.need) digits)
     else None
 
-abbrev pub part_of_words : Parameters → Said → List (List ℕ) → Option Said
-part_of_words group said (name ∷ member ∷ digits ∷ []) = part_line_of group said name member digits
-part_of_words group said _ = None
+abbrev pub part_of_words : Shape → Said → List (List ℕ) → Option Said
+part_of_words shape said (name ∷ member ∷ digits ∷ []) = part_line_of shape said name member digits
+part_of_words shape said _ = None
 
 -- what the lines so far and one more said, or nothing where that one is bad
-abbrev pub with_line : Parameters → Said → Line → Option Said
-with_line group said line = if is_whole line then part_of_words group said (words_of line.text) else None
+abbrev pub with_line : Shape → Said → TextLine → Option Said
+with_line shape said line = if is_whole line then part_of_words shape said (words_of line.text) else None
 
 -- the line with that number is bad, or the lines after it are read
 abbrev pub then_rest : {A : Type 0} → ℕ → Option A → (A → Reading) → Reading
@@ -93,23 +90,23 @@ then_rest number None rest = BadAt number
 then_rest number (Some told) rest = rest told
 
 -- the lines of parts are read in order; before each stand the value's line and one for each part so far
-abbrev pub parts_from : Parameters → Said → List Line → Reading
-parts_from group said [] = Good said
-parts_from group said (line ∷ lines) = then_rest (length said.parts + 2) (with_line group said line) (λ next. parts_from group next lines)
+abbrev pub parts_from : Shape → Said → List TextLine → Reading
+parts_from shape said [] = Good said
+parts_from shape said (line ∷ lines) = then_rest (length said.parts + 2) (with_line shape said line) (λ next. parts_from shape next lines)
 
 -- nothing but the value's length
 abbrev pub only_length : ℕ → Said
 only_length count = record { value_length = count; parts = []; next = 0 }
 
 -- the first line tells the value's length, and the others are lines of parts
-abbrev pub text_from : Parameters → List Line → Reading
-text_from group [] = BadAt 1
-text_from group (line ∷ lines) = then_rest 1 (length_at line) (λ count. parts_from group (only_length count) lines)
+abbrev pub text_from : Shape → List TextLine → Reading
+text_from shape [] = BadAt 1
+text_from shape (line ∷ lines) = then_rest 1 (length_at line) (λ count. parts_from shape (only_length count) lines)
 
--- what an input says to a group
-abbrev pub reading : Parameters → List ℕ → Reading
-reading group bytes = text_from group (lines_of bytes)
+-- what an input says to a cluster
+abbrev pub reading : Shape → List ℕ → Reading
+reading shape bytes = text_from shape (lines_of bytes)
 
--- as many of the first parts as the group needs
-abbrev pub first_parts : Parameters → Said → Rebuilding
-first_parts group said = record { need = group.need; value_length = said.value_length; parts = take group.need said.parts }
+-- as many of the first parts as the cluster needs
+abbrev pub first_parts : Shape → Said → Rebuilding
+first_parts shape said = record { need = shape.need; value_length = said.value_length; parts = take shape.need said.parts }

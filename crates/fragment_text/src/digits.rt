@@ -5,10 +5,8 @@ ghost use Rattle.std.specs.List.{list_any};
 ghost use Rattle.fragment_text.specs.Said.{bytes_of, length_of_words};
 ghost use Rattle.fragment_text.specs.Kept.{Decodes};
 
+use entry_frames::LONGEST_VALUE;
 use line_input::number;
-
-/// The most bytes of a value.
-pub const LONGEST_VALUE: usize = 32_768;
 
 /// The length that the words of the value's line tell.
 pub fn value_length(words: &[&[u8]]) -> Option<usize>
@@ -28,7 +26,7 @@ fn value_length_of(name: &[u8], count: &[u8]) -> Option<usize>
         return None;
     }
     let count = number(count)?;
-    if count > LONGEST_VALUE as u64 {
+    if count > u64::from(LONGEST_VALUE) {
         return None;
     }
     Some(count as usize)

@@ -1,6 +1,7 @@
 //! The lines of parts are read, and the value that they give is written.
 ghost use Rattle.std.specs.Prelude.{◌≡◌, ◌≤◌, ◌<◌, IfOk, IfErr, OnOk, IsTrue};
-ghost use Rattle.craft_base.specs.Parameters.{Parameters};
+ghost use Rattle.craft_base.specs.Shape.{Shape};
+ghost use Rattle.entry_frames.specs.Limits.{longest_value};
 ghost use Rattle.fragment_text.specs.Said.{Said, part_of_words, words_of};
 ghost use Rattle.fragment_text.specs.Joining.{JoinEnds, ReadsNoParts};
 ghost use Rattle.fragment_text.specs.Kept.{StandsFor, Takes, ReadsLength, ReadsPart, ReadsNoPart, ReadsParts};
@@ -14,7 +15,7 @@ use craft_edge::{Sink, Source, write_all};
 use line_input::{LineEnd, read_line, words};
 use std::alloc::{AllocError, Global};
 
-/// Reads the lines of parts to the end of the source, and writes the value that the first k of them give, for a group
+/// Reads the lines of parts to the end of the source, and writes the value that the first k of them give, for a cluster
 /// that needs k. The others are read for their form alone.
 pub fn join<S: Source, O: Sink>(alloc: Global, shape: &Shape, src: &mut S, out: &mut O) -> JoinEnd
     ensures ends { JoinEnds shape.now
@@ -67,8 +68,8 @@ fn read_parts<S: Source>(alloc: Global, shape: &Shape, src: &mut S) -> Result<Pa
 /// Reads the first line, which tells the value's length.
 fn read_length<S: Source>(alloc: Global, src: &mut S, line: &mut Vec<u8>) -> Result<usize, JoinEnd>
     ensures read { IfOk result (ReadsLength (S.left src.old) (S.left src.new)) }
-    ensures limit { IfOk result (λ count. count ≤ 32_768) }
-    ensures failed { IfErr result (λ end. (group : Parameters) → ReadsNoParts group (S.left src.old) (S.faults src.old) (S.faults src.new) end) }
+    ensures limit { IfOk result (λ count. count ≤ longest_value) }
+    ensures failed { IfErr result (λ end. (shape : Shape) → ReadsNoParts shape (S.left src.old) (S.faults src.old) (S.faults src.new) end) }
     ensures later { S.faults src.old ≤ S.faults src.new }
 {
     match read_line(src, line)? {
@@ -87,10 +88,10 @@ fn read_part<S: Source>(
     line: &mut Vec<u8>,
     parts: &mut Parts,
 ) -> Result<bool, JoinEnd>
-    ensures read { IfOk result (λ more. (group : Parameters) (said : Said) → StandsFor group parts.old said → ReadsPart group said (S.left src.old) (S.left src.new) parts.new more) }
+    ensures read { IfOk result (λ more. (shape : Shape) (said : Said) → StandsFor shape parts.old said → ReadsPart shape said (S.left src.old) (S.left src.new) parts.new more) }
     ensures rising { IfOk result (λ more. IsTrue more → parts.old.next < parts.new.next) }
     ensures limit { IfOk result (λ more. IsTrue more → parts.new.next ≤ 15) }
-    ensures failed { IfErr result (λ end. (group : Parameters) (said : Said) → StandsFor group parts.old said → ReadsNoPart group said (S.left src.old) (S.faults src.old) (S.faults src.new) end) }
+    ensures failed { IfErr result (λ end. (shape : Shape) (said : Said) → StandsFor shape parts.old said → ReadsNoPart shape said (S.left src.old) (S.faults src.old) (S.faults src.new) end) }
     ensures later { S.faults src.old ≤ S.faults src.new }
 {
     let number = u64::from(parts.count()) + 2;
@@ -109,7 +110,7 @@ fn read_part<S: Source>(
 
 /// Takes the part that a line without its line feed tells. Answers whether it is the line of a part that may come next.
 fn take_line(alloc: Global, line: &[u8], parts: &mut Parts) -> Result<bool, AllocError>
-    ensures taken { IfOk result (λ taken. (group : Parameters) (said : Said) → StandsFor group parts.old said → Takes group parts.new (part_of_words group said (words_of line.now)) taken) }
+    ensures taken { IfOk result (λ taken. (shape : Shape) (said : Said) → StandsFor shape parts.old said → Takes shape parts.new (part_of_words shape said (words_of line.now)) taken) }
     ensures rising { IfOk result (λ taken. IsTrue taken → parts.old.next < parts.new.next) }
     ensures limit { IfOk result (λ taken. IsTrue taken → parts.new.next ≤ 15) }
 {

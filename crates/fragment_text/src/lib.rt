@@ -4,6 +4,7 @@
 mod digits;
 mod join_end;
 mod joining;
+mod laws;
 mod parts;
 mod split_end;
 mod splitting;
@@ -11,6 +12,7 @@ mod text;
 
 pub use join_end::JoinEnd;
 pub use joining::join;
+pub use laws::{a_value_comes_back, texts_are_spelled_once};
 pub use split_end::SplitEnd;
 pub use splitting::split;
 

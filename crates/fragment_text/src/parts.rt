@@ -32,14 +32,15 @@ pub struct Parts {
 
 impl Parts {
     ghost use Rattle.std.specs.Prelude.{◌≡◌, ◌≤◌, ◌<◌, ◌+◌, map, IfOk, IfErr, IsTrue};
-    ghost use Rattle.craft_base.specs.Parameters.{Parameters};
+    ghost use Rattle.craft_base.specs.Shape.{Shape};
+    ghost use Rattle.entry_frames.specs.Limits.{longest_value};
     ghost use Rattle.world_model.specs.Numbers.{number_of};
     ghost use Rattle.fragment_text.specs.Said.{Said, only_length, part_of_words, part_line_of, rising_member, with_part};
     ghost use Rattle.fragment_text.specs.Kept.{StandsFor, Takes, Rebuilds, RebuildsNone};
 
     /// No parts of a value of that many bytes.
     pub fn new(alloc: Global, shape: &Shape, value_length: usize) -> Result<Parts, OutOfMemory>
-        requires { value_length ≤ 32_768 }
+        requires { value_length ≤ longest_value }
         ensures { IfOk result (λ parts. StandsFor shape.now parts (only_length value_length)) }
     {
         let need = shape.need();
@@ -66,7 +67,7 @@ impl Parts {
 
     /// Takes the part of a line, by its words. Answers whether they are those of a part that may come next.
     pub fn take(&mut self, words: &[&[u8]]) -> bool
-        ensures taken { (group : Parameters) (said : Said) → StandsFor group self.old said → Takes group self.new (part_of_words group said (map (λ word. word.now) words.now)) result }
+        ensures taken { (shape : Shape) (said : Said) → StandsFor shape self.old said → Takes shape self.new (part_of_words shape said (map (λ word. word.now) words.now)) result }
         ensures rising { IsTrue result → self.old.next < self.new.next }
         ensures limit { self.new.next ≤ 15 }
     {
@@ -78,7 +79,7 @@ impl Parts {
 
     /// `part j hex`
     fn take_part(&mut self, name: &[u8], member: &[u8], digits: &[u8]) -> bool
-        ensures taken { (group : Parameters) (said : Said) → StandsFor group self.old said → Takes group self.new (part_line_of group said name.now member.now digits.now) result }
+        ensures taken { (shape : Shape) (said : Said) → StandsFor shape self.old said → Takes shape self.new (part_line_of shape said name.now member.now digits.now) result }
         ensures rising { IsTrue result → self.old.next < self.new.next }
         ensures limit { self.new.next ≤ 15 }
     {
@@ -109,8 +110,8 @@ impl Parts {
     /// Counts a member's part, whose bytes stand decoded; the rebuilder takes it while it needs one.
     fn keep(&mut self, member: u8)
         requires later { self.old.next ≤ member }
-        requires in_group { member < self.old.members }
-        ensures kept { (group : Parameters) (said : Said) → StandsFor group self.old said → StandsFor group self.new (with_part said member self.old.bytes.items) }
+        requires in_shape { member < self.old.members }
+        ensures kept { (shape : Shape) (said : Said) → StandsFor shape self.old said → StandsFor shape self.new (with_part said member self.old.bytes.items) }
         ensures next { self.new.next ≡ member + 1 }
         ensures limit { self.new.next ≤ 15 }
     {
@@ -121,8 +122,8 @@ impl Parts {
 
     /// The value that the first parts give, where they are enough.
     pub fn value(&self, alloc: Global) -> Result<Vec<u8>, JoinEnd>
-        ensures joined { IfOk result (λ value. (group : Parameters) (said : Said) → StandsFor group self.now said → Rebuilds group said value.items) }
-        ensures failed { IfErr result (λ end. (group : Parameters) (said : Said) → StandsFor group self.now said → RebuildsNone group said end) }
+        ensures joined { IfOk result (λ value. (shape : Shape) (said : Said) → StandsFor shape self.now said → Rebuilds shape said value.items) }
+        ensures failed { IfErr result (λ end. (shape : Shape) (said : Said) → StandsFor shape self.now said → RebuildsNone shape said end) }
     {
         if self.rebuilder.count() < self.need {
             return Err(JoinEnd::TooFew {

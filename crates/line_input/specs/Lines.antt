@@ -1,7 +1,8 @@
 -- What reading takes of the bytes of a source, where it tells them.
-use Rattle.std.specs.Prelude.{◌≡◌, ◌⊎◌, ◌<◌, ℕ, List, [], ◌∷◌, ◌++◌, length, false, ◌==◌, Option, None, Some}
+use Rattle.std.specs.Prelude.{◌≡◌, ◌⊎◌, ◌<◌, ◌+◌, ℕ, List, [], ◌∷◌, ◌++◌, length, Bool, false, ◌&&◌, ◌==◌, nat_le, Option, None, Some}
 use Rattle.std.specs.List.{list_any}
 use Rattle.std.specs.Io.KnownBytes.{Consumes, IsAtEnd}
+use Rattle.world_model.specs.Schedule.{TextLine, longest_line}
 use Rattle.line_input.specs.declared.line.LineEnd.{LineEnd}
 use Rattle.line_input.specs.declared.line.LineEnd.TheVariants.{LineFeed, End, Broken}
 
@@ -14,10 +15,14 @@ TakesByte old new (Some byte) = Consumes old new (byte ∷ [])
 abbrev pub HasNoLineFeed : List ℕ → Type 0
 HasNoLineFeed text = list_any (λ byte. byte == 10) text ≡ false
 
+-- whether a line has its line feed and isn't longer than a line may be, with it
+abbrev pub is_whole : TextLine → Bool
+is_whole line = line.ended && nat_le (length line.text + 1) longest_line
+
 -- A line was taken with its line feed; or nothing was, at the end of the input; or the input ended within the line,
 -- or no line feed is among its first 70,000 bytes.
 abbrev pub TakesLine : Option (List ℕ) → Option (List ℕ) → List ℕ → LineEnd → Type 0
-TakesLine old new text LineFeed = Consumes old new (text ++ 10 ∷ []) × HasNoLineFeed text × (length text < 70_000)
+TakesLine old new text LineFeed = Consumes old new (text ++ 10 ∷ []) × HasNoLineFeed text × (length text < longest_line)
 TakesLine old new text End = Consumes old new [] × IsAtEnd new
 TakesLine old new text Broken =
-    Consumes old new text × HasNoLineFeed text × ((IsAtEnd new × (0 < length text)) ⊎ (length text ≡ 70_000))
+    Consumes old new text × HasNoLineFeed text × ((IsAtEnd new × (0 < length text)) ⊎ (length text ≡ longest_line))

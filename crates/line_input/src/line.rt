@@ -6,9 +6,7 @@ ghost use Rattle.line_input.specs.declared.fault.InputFault.TheVariants.{SourceF
 
 use crate::InputFault;
 use craft_edge::Source;
-
-/// The most bytes of a line, its line feed counted.
-const LONGEST_LINE: usize = 70_000;
+use world_model::LONGEST_LINE;
 
 /// How a line ends.
 #[derive(Clone, Copy, Debug, PartialEq, Eq)]

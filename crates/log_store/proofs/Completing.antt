@@ -12,7 +12,8 @@ use Rattle.entry_frames.specs.Entries.{entry_fields}
 use Rattle.entry_frames.specs.Formats.{Fits, within}
 use Rattle.entry_frames.specs.Limits.{longest_value}
 use Rattle.entry_frames.specs.Logs.{entry_at}
-use Rattle.log_store.specs.Stores.{AreEntries, bulk_of}
+use Rattle.entry_frames.specs.Bulk.{bulk_of}
+use Rattle.log_store.specs.Stores.{AreEntries}
 
 entry_with : ℕ → ℕ → ℕ → Op → List ℕ → ℕ → Form → Entry
 entry_with term client seq op key vlen form = record { term = term; head = record { client = client; seq = seq; op = op; key = key; vlen = vlen }; form = form }
@@ -21,46 +22,46 @@ from_none : (vlen : ℕ) → within 1 longest_value vlen ≡ true → within 0 l
 from_none vlen is = grind (arith, nat_tests, is)
 
 whole_fits :
-    (need term client seq : ℕ) (op : Op) (key : List ℕ) (vlen : ℕ) (part bytes : List ℕ) → length bytes ≡ vlen →
-    Fits (entry_fields need) (entry_with term client seq op key vlen (forms.Part part)) → Fits (entry_fields need) (entry_with term client seq op key vlen (forms.Whole bytes))
+    (k term client seq : ℕ) (op : Op) (key : List ℕ) (vlen : ℕ) (part bytes : List ℕ) → length bytes ≡ vlen →
+    Fits (entry_fields k) (entry_with term client seq op key vlen (forms.Part part)) → Fits (entry_fields k) (entry_with term client seq op key vlen (forms.Whole bytes))
 unfolding entry_with
-whole_fits need term client seq ops.Noop key vlen part bytes len fits = cc
-whole_fits need term client seq ops.Del key vlen part bytes len fits = cc
-whole_fits need term client seq ops.Get key vlen part bytes len fits = cc
-whole_fits need term client seq ops.Put key vlen part bytes len fits =
+whole_fits k term client seq ops.Noop key vlen part bytes len fits = cc
+whole_fits k term client seq ops.Del key vlen part bytes len fits = cc
+whole_fits k term client seq ops.Get key vlen part bytes len fits = cc
+whole_fits k term client seq ops.Put key vlen part bytes len fits =
     let t = fits.1.1 in
     let value = t.1.1.1.1.1.1.1.0 in
     ((omega arith, refl), ((omega arith, refl), (t.0, (t.1.0, (t.1.1.0, (t.1.1.1.0, (t.1.1.1.1.0, (t.1.1.1.1.1.0, (t.1.1.1.1.1.1.0, ((value.0, from_none vlen value.1), (len, refl)))))))))))
-whole_fits need term client seq (ops.PutIf expected) key vlen part bytes len fits =
+whole_fits k term client seq (ops.PutIf expected) key vlen part bytes len fits =
     let t = fits.1.1 in
     let value = t.1.1.1.1.1.1.1.0 in
     ((omega arith, refl), ((omega arith, refl), (t.0, (t.1.0, (t.1.1.0, (t.1.1.1.0, (t.1.1.1.1.0, (t.1.1.1.1.1.0, (t.1.1.1.1.1.1.0, ((value.0, from_none vlen value.1), (len, refl)))))))))))
 
 -- the entry with its value, where it was a part of one of that length
-completed_fits : (need : ℕ) (entry : Entry) (bytes : List ℕ) → IsPartOf entry.form entry.head.vlen (length bytes) → Fits (entry_fields need) entry → Fits (entry_fields need) (completed entry bytes)
+completed_fits : (k : ℕ) (entry : Entry) (bytes : List ℕ) → IsPartOf entry.form entry.head.vlen (length bytes) → Fits (entry_fields k) entry → Fits (entry_fields k) (completed entry bytes)
 unfolding entry_with
-completed_fits need entry bytes is fits = at entry.form refl
+completed_fits k entry bytes is fits = at entry.form refl
   where
-    at : (form : Form) → entry.form ≡ form → Fits (entry_fields need) (completed entry bytes)
+    at : (form : Form) → entry.form ≡ form → Fits (entry_fields k) (completed entry bytes)
     at (forms.Whole held) e = absurd (subst (λ f. IsPartOf f entry.head.vlen (length bytes)) e is)
     at (forms.Part part) e =
-        whole_fits need entry.term entry.head.client entry.head.seq entry.head.op entry.head.key entry.head.vlen part bytes
+        whole_fits k entry.term entry.head.client entry.head.seq entry.head.op entry.head.key entry.head.vlen part bytes
         (sym (subst (λ f. IsPartOf f entry.head.vlen (length bytes)) e is))
-        (subst (λ f. Fits (entry_fields need) (entry_with entry.term entry.head.client entry.head.seq entry.head.op entry.head.key entry.head.vlen f)) e fits)
+        (subst (λ f. Fits (entry_fields k) (entry_with entry.term entry.head.client entry.head.seq entry.head.op entry.head.key entry.head.vlen f)) e fits)
 
 completed_from :
-    (need low high : ℕ) (log : List Entry) (position : ℕ) (bytes : List ℕ) → AreEntries need low high log → LacksValue (slice_get log position) (length bytes) →
-    AreEntries need low high (complete_at log position bytes)
-completed_from need low high [] position bytes are lacks = tt
-completed_from need low high (e ∷ log) zero bytes are lacks = (completed_fits need e bytes lacks are.0, are.1, are.2, are.3)
-completed_from need low high (e ∷ log) (suc position) bytes are lacks = (are.0, are.1, are.2, completed_from need e.term high log position bytes are.3 lacks)
+    (k low high : ℕ) (log : List Entry) (position : ℕ) (bytes : List ℕ) → AreEntries k low high log → LacksValue (slice_get log position) (length bytes) →
+    AreEntries k low high (complete_at log position bytes)
+completed_from k low high [] position bytes are lacks = tt
+completed_from k low high (e ∷ log) zero bytes are lacks = (completed_fits k e bytes lacks are.0, are.1, are.2, are.3)
+completed_from k low high (e ∷ log) (suc position) bytes are lacks = (are.0, are.1, are.2, completed_from k e.term high log position bytes are.3 lacks)
 
 pub complete_entries :
-    (need high : ℕ) (log : List Entry) (index : ℕ) (bytes : List ℕ) → AreEntries need 0 high log → LacksValue (entry_at log index) (length bytes) →
-    AreEntries need 0 high (complete_at log (index - 1) bytes)
-complete_entries need high log zero bytes are lacks = absurd lacks
-complete_entries need high log (suc position) bytes are lacks =
-    subst (λ p. AreEntries need 0 high (complete_at log p bytes)) (before position) (completed_from need 0 high log position bytes are lacks)
+    (k high : ℕ) (log : List Entry) (index : ℕ) (bytes : List ℕ) → AreEntries k 0 high log → LacksValue (entry_at log index) (length bytes) →
+    AreEntries k 0 high (complete_at log (index - 1) bytes)
+complete_entries k high log zero bytes are lacks = absurd lacks
+complete_entries k high log (suc position) bytes are lacks =
+    subst (λ p. AreEntries k 0 high (complete_at log p bytes)) (before position) (completed_from k 0 high log position bytes are lacks)
   where
     before : (position : ℕ) → position ≡ suc position - 1
     before position = omega arith

@@ -1,3 +1,4 @@
-mod Entries
+pub mod Entries
 mod Completing
 mod Replaying
+pub mod Opened

@@ -1,17 +1,15 @@
 //! The state that the records of a journal leave.
-ghost use Rattle.std.specs.Prelude.{◌≡◌, ◌++◌, List, ℕ, MatchOption, IfOk, IfSome};
+ghost use Rattle.std.specs.Prelude.{◌≡◌, List, IfOk};
 ghost use Rattle.entry_frames.specs.Durable.{born, applied, after, CanApply};
-ghost use Rattle.entry_frames.specs.Formats.{Fits, spelling};
-ghost use Rattle.entry_frames.specs.RecordViews.{record_of, NeedIs};
-ghost use Rattle.entry_frames.specs.Records.{Record, record_fields};
-ghost use Rattle.entry_frames.specs.Views.{IsNeed};
-ghost use Rattle.log_store.specs.Replays.{Spells, IsFirst, IsRead};
+ghost use Rattle.entry_frames.specs.RecordViews.{record_of, HasK};
+ghost use Rattle.entry_frames.specs.Records.{Record};
+ghost use Rattle.log_store.specs.Replays.{Spells};
 ghost use Rattle.synced_log.specs.Journal.{AreGroups, after_groups, placed_from};
-ghost use Rattle.synced_log.specs.Walks.{SpellsAll};
+ghost use Rattle.entry_frames.specs.Bodies.{SpellsAll};
 
 use crate::store::LogStore;
 use craft_base::{OutOfMemory, Shape};
-use entry_frames::RecordView;
+use entry_frames::{RecordView, RecordWalk};
 use std::alloc::Global;
 use synced_log::Groups;
 
@@ -19,8 +17,8 @@ impl LogStore {
     /// Applies the records of all groups of a journal, in order, to the state before any record. The only error is want of
     /// memory.
     pub fn replay(alloc: Global, shape: &Shape, groups: &Groups) -> Result<LogStore, OutOfMemory>
-        requires { groups.now.group ≡ shape.now }
-        ensures group { IfOk result (λ store. store.group ≡ shape.now) }
+        requires { groups.now.shape ≡ shape.now }
+        ensures shape { IfOk result (λ store. store.shape ≡ shape.now) }
         ensures kept { IfOk result (λ store. (all : List (List Record)) → groups.now.placed ≡ placed_from shape.now.need 32 all → AreGroups shape.now born all → store.kept ≡ after_groups born all) }
     {
         let mut store = LogStore::new(alloc, shape);
@@ -28,16 +26,16 @@ impl LogStore {
             let Some((_, body)) = groups.at(n) else {
                 unreachable!()
             };
-            store = store.take_body(body)?;
+            store = store.apply_body(body)?;
         }
         Ok(store)
     }
 
     /// Applies a record. The only error is want of memory.
-    fn take(self, item: &RecordView<'_>) -> Result<LogStore, OutOfMemory>
-        requires need { NeedIs self.group.need item.now }
-        requires can { CanApply self.group self.kept (record_of item.now) }
-        ensures group { IfOk result (λ store. store.group ≡ self.group) }
+    fn apply(self, item: &RecordView<'_>) -> Result<LogStore, OutOfMemory>
+        requires need { HasK self.shape.need item.now }
+        requires can { CanApply self.shape self.kept (record_of item.now) }
+        ensures shape { IfOk result (λ store. store.shape ≡ self.shape) }
         ensures kept { IfOk result (λ store. store.kept ≡ applied self.kept (record_of item.now)) }
     {
         let mut store = self;
@@ -52,31 +50,17 @@ impl LogStore {
     }
 
     /// Applies the records of a body, in order. The only error is want of memory.
-    fn take_body(self, body: &[u8]) -> Result<LogStore, OutOfMemory>
+    fn apply_body(self, body: &[u8]) -> Result<LogStore, OutOfMemory>
         requires { Spells self body.now }
-        ensures group { IfOk result (λ store. store.group ≡ self.group) }
-        ensures kept { IfOk result (λ store. (records : List Record) → SpellsAll self.group self.kept body.now records → store.kept ≡ after self.kept records) }
+        ensures shape { IfOk result (λ store. store.shape ≡ self.shape) }
+        ensures kept { IfOk result (λ store. (records : List Record) → SpellsAll self.shape self.kept body.now records → store.kept ≡ after self.kept records) }
     {
-        let need = self.need();
+        let mut walk = RecordWalk::of(self.k(), body);
         let mut store = self;
-        let mut rest = body;
-        while !rest.is_empty() {
-            let Some((item, count)) = first_of(need, rest) else {
-                unreachable!()
-            };
-            store = store.take(&item)?;
-            rest = &rest[count..];
+        while let Some(item) = walk.next() {
+            let Ok(item) = item else { unreachable!() };
+            store = store.apply(&item)?;
         }
         Ok(store)
     }
-}
-
-/// The record with which the bytes begin, and how many bytes it takes.
-fn first_of(need: u8, bytes: &[u8]) -> Option<(RecordView<'_>, usize)>
-    requires { IsNeed need }
-    ensures only { (r : Record) (others : List ℕ) → Fits (record_fields need) r → bytes.now ≡ spelling (record_fields need) r ++ others
-        → MatchOption result ⊥ (λ x. IsFirst bytes.now r others x.0 x.1) }
-    ensures read { IfSome result (λ x. IsRead need bytes.now x.0 x.1) }
-{
-    RecordView::read(need, bytes).ok()
 }

@@ -3,7 +3,8 @@ ghost use Rattle.std.specs.Prelude.{◌≡◌, ◌<◌, ◌^◌, IfOk};
 ghost use Rattle.entry_frames.specs.Durable.{born, applied, complete_at, CanApply};
 ghost use Rattle.entry_frames.specs.Records.{Term, Add, Cut, Whole, Commit};
 ghost use Rattle.entry_frames.specs.Logs.{IsLog};
-ghost use Rattle.log_store.specs.Stores.{bulk_of};
+ghost use Rattle.entry_frames.specs.Bulk.{bulk_of};
+ghost use Rattle.log_store.specs.Stores.{IsStored};
 
 use craft_base::{Blob, Entry, Form, OutOfMemory, Shape};
 use entry_frames::{EntryView, LogView};
@@ -21,17 +22,18 @@ pub struct LogStore {
     commit: u64,
     entries: Vec<Entry>,
     bulk: u64,
-    ghost is_log: { IsLog (record { need = shape.need; entries = entries.items; commit = commit }) },
+    ghost is_log: { IsLog (record { k = shape.need; entries = entries.items; commit = commit }) },
 }
 
 impl Model for LogStore {
     ghost use Rattle.std.specs.Prelude.{◌≡◌};
-    ghost use Rattle.log_store.specs.Stores.{Stored, IsStored, bulk_of};
+    ghost use Rattle.entry_frames.specs.Bulk.{bulk_of};
+    ghost use Rattle.log_store.specs.Stores.{Stored, IsStored};
 
     ghost Value = { Stored };
 
     ghost view = { λ s. record {
-      group = s.shape;
+      shape = s.shape;
       kept = record { term = s.term; vote = s.vote; log = s.entries.items; commit = s.commit };
       is_log = s.is_log;
     } };
@@ -42,12 +44,10 @@ impl Model for LogStore {
 impl LogStore {
     /// The state before any record.
     pub fn new(alloc: Global, shape: &Shape) -> LogStore
-        ensures group { result.group ≡ shape.now }
+        ensures shape { result.shape ≡ shape.now }
         ensures kept { result.kept ≡ born }
     {
-        // so that the proof sees that they are a group's
-        let _faults = shape.faults();
-        let _need = shape.need();
+        shape.law();
         LogStore {
             alloc,
             shape: *shape,
@@ -61,7 +61,9 @@ impl LogStore {
 
     /// The term: 0 before any record, else 1 to 2^62.
     pub fn term(&self) -> u64
-        ensures { result ≡ self.now.kept.term }
+        ensures value { result ≡ self.now.kept.term }
+        // Each entry is in its ranges, and the terms are at least 1, don't fall and are at most this one, which is in range.
+        ensures stored { IsStored self.now.shape self.now.kept.term self.now.kept.log }
     {
         self.term
     }
@@ -82,8 +84,8 @@ impl LogStore {
 
     /// Enters a term, or votes in the present one.
     pub fn set_term(&mut self, term: u64, vote: Option<u8>)
-        requires { CanApply self.old.group self.old.kept (Term term vote) }
-        ensures group { self.new.group ≡ self.old.group }
+        requires { CanApply self.old.shape self.old.kept (Term term vote) }
+        ensures shape { self.new.shape ≡ self.old.shape }
         ensures kept { self.new.kept ≡ applied self.old.kept (Term term vote) }
     {
         self.term = term;
@@ -92,14 +94,14 @@ impl LogStore {
 
     /// Adds an entry behind the last one. The only error is want of memory.
     pub fn append(self, entry: &EntryView<'_>) -> Result<LogStore, OutOfMemory>
-        requires need { entry.now.need ≡ self.group.need }
-        requires can { CanApply self.group self.kept (Add entry.now.entry) }
-        ensures group { IfOk result (λ store. store.group ≡ self.group) }
+        requires need { entry.now.k ≡ self.shape.need }
+        requires can { CanApply self.shape self.kept (Add entry.now.entry) }
+        ensures shape { IfOk result (λ store. store.shape ≡ self.shape) }
         ensures kept { IfOk result (λ store. store.kept ≡ applied self.kept (Add entry.now.entry)) }
     {
         let mut store = self;
         // so that the proof sees that the entry is in range
-        let _need = entry.need();
+        let _need = entry.k();
         let added = entry.to_entry(store.alloc)?;
         store.entries.push(added)?;
         store.bulk += u64::from(entry.vlen());
@@ -108,8 +110,8 @@ impl LogStore {
 
     /// Takes the entries from an index on out of the log.
     pub fn cut_from(&mut self, index: u64)
-        requires { CanApply self.old.group self.old.kept (Cut index) }
-        ensures group { self.new.group ≡ self.old.group }
+        requires { CanApply self.old.shape self.old.kept (Cut index) }
+        ensures shape { self.new.shape ≡ self.old.shape }
         ensures kept { self.new.kept ≡ applied self.old.kept (Cut index) }
     {
         let left = (index - 1) as usize;
@@ -119,8 +121,8 @@ impl LogStore {
 
     /// Gives the entry at an index, a part, its whole value. The only error is want of memory.
     pub fn make_whole(self, index: u64, value: &[u8]) -> Result<LogStore, OutOfMemory>
-        requires { CanApply self.group self.kept (Whole index value.now) }
-        ensures group { IfOk result (λ store. store.group ≡ self.group) }
+        requires { CanApply self.shape self.kept (Whole index value.now) }
+        ensures shape { IfOk result (λ store. store.shape ≡ self.shape) }
         ensures kept { IfOk result (λ store. store.kept ≡ applied self.kept (Whole index value.now)) }
     {
         let mut store = self;
@@ -131,8 +133,8 @@ impl LogStore {
 
     /// Commits the log up to an index.
     pub fn set_commit(&mut self, commit: u64)
-        requires { CanApply self.old.group self.old.kept (Commit commit) }
-        ensures group { self.new.group ≡ self.old.group }
+        requires { CanApply self.old.shape self.old.kept (Commit commit) }
+        ensures shape { self.new.shape ≡ self.old.shape }
         ensures kept { self.new.kept ≡ applied self.old.kept (Commit commit) }
     {
         self.commit = commit;
@@ -142,7 +144,7 @@ impl LogStore {
 impl LogView for LogStore {
     ghost use Rattle.log_store.specs.Stores.{shown};
 
-    ghost log = { λ s. shown s.group s.kept };
+    ghost log = { λ s. shown s.shape s.kept };
 
     ghost is_log = { λ s. s.is_log };
 
@@ -169,12 +171,12 @@ impl LogView for LogStore {
 impl LogStore {
     ghost use Rattle.std.specs.Prelude.{MatchOption, Some, None};
     ghost use Rattle.entry_frames.specs.Logs.{entry_at};
-    ghost use Rattle.entry_frames.specs.Views.{IsNeed};
+    ghost use Rattle.entry_frames.specs.Views.{IsK};
 
-    /// How many fragments rebuild a value of its group.
-    pub(crate) fn need(&self) -> u8
-        ensures value { result ≡ self.now.group.need }
-        ensures range { IsNeed result }
+    /// How many fragments rebuild a value of its cluster.
+    pub(crate) fn k(&self) -> u8
+        ensures value { result ≡ self.now.shape.need }
+        ensures range { IsK result }
     {
         self.shape.need()
     }
@@ -202,11 +204,11 @@ fn sum_of(entries: &[Entry]) -> u64
     sum
 }
 
-/// Gives the entry at a place its whole value.
-fn complete(entries: &mut [Entry], place: usize, bytes: Blob)
-    ensures { entries.new ≡ complete_at entries.old place bytes }
+/// Gives the entry at a position its whole value.
+fn complete(entries: &mut [Entry], position: usize, bytes: Blob)
+    ensures { entries.new ≡ complete_at entries.old position bytes }
 {
-    if place < entries.len() {
-        entries[place].form = Form::Whole(bytes);
+    if position < entries.len() {
+        entries[position].form = Form::Whole(bytes);
     }
 }

@@ -7,6 +7,7 @@ use entry_frames::{EntryView, LogView};
 use std::alloc::Global;
 use std::test::Fail;
 use synced_log::Journal;
+use test_text::bytes_of;
 
 // By hand, as all of these tables: the header of member 1 of three, any two of whose fragments rebuild a value.
 const HEADER: &str = "43524146544c4f47 01 01 02 01 0000000000000000000000000000000000000000";
@@ -41,23 +42,14 @@ const LEFT: [&str; 5] = [
     "3 Some(0) 2 2 3; 2 0 0 Noop [] 0 whole []; 2 7 8 Put [107] 3 whole [118, 97, 108]",
 ];
 
-/// The bytes of a text of hexadecimal digits, between which blanks may stand.
-fn bytes_of(alloc: Global, text: &str) -> Result<Vec<u8>, Fail> {
-    let mut digits = String::new(alloc);
-    for word in text.split_whitespace() {
-        digits.push_str(word)?;
-    }
-    Ok(hex::decode(alloc, digits)?)
-}
-
 /// The journal of that many groups.
 fn journal_of(alloc: Global, count: usize) -> Result<Vec<u8>, Fail> {
     let mut text = String::from_str(alloc, HEADER)?;
-    for group in GROUPS.iter().take(count) {
-        text.push_str(group)?;
+    for shape in GROUPS.iter().take(count) {
+        text.push_str(shape)?;
     }
     text.push_str("00")?;
-    bytes_of(alloc, text.as_str())
+    Ok(bytes_of(alloc, text.as_str())?)
 }
 
 /// The state that a journal of member 1 leaves.

@@ -1,5 +1,4 @@
-pub mod Batches
-pub mod Bodies
+pub mod Peers
 pub mod Frames
 pub mod Reading
 pub mod Whole

@@ -1,8 +1,5 @@
-pub mod Batches
-pub mod BodyViews
+pub mod PeerViews
 pub mod FrameViews
-pub mod KindViews
-pub mod Messages
 pub mod RequestViews
 pub mod SlotViews
 pub mod Texts

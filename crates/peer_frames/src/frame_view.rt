@@ -1,25 +1,22 @@
 //! Frames, read where they lie.
 ghost use Rattle.std.specs.Prelude.{◌≡◌, ◌-◌, true, IfOk};
-ghost use Rattle.craft_base.specs.Parameters.{members_of};
+ghost use Rattle.craft_base.specs.Shape.{members_of};
 ghost use Rattle.entry_frames.specs.Formats.{U8, number_at, reading, within};
-ghost use Rattle.entry_frames.specs.Kinds.{PeerKind, AskedKind, AnsweredKind, kind_of};
+ghost use Rattle.entry_frames.specs.declared.kind.Kind.TheVariants as kinds;
+ghost use Rattle.entry_frames.specs.Kinds.{kind_of};
 ghost use Rattle.entry_frames.specs.MessageFields.{frame_fields, ends_fields, peer_fields, said_fields, asked_fields, answered_fields, replied_fields};
 ghost use Rattle.entry_frames.specs.Steps.{Reads};
-ghost use Rattle.entry_frames.specs.Views.{IsNeed};
-ghost use Rattle.peer_frames.specs.FrameViews.{frame_seen, FrameNeed, HasNoBody};
-ghost use Rattle.peer_frames.specs.Messages.{frame_of};
-ghost use Rattle.peer_frames.specs.KindViews.{kind_seen, body_kind_seen};
+ghost use Rattle.entry_frames.specs.Views.{IsK};
+ghost use Rattle.peer_frames.specs.FrameViews.{message_of_view, FrameHasK, HasNoBody};
 
-use crate::body_view::BodyView;
-use crate::kind::{BodyKind, Kind};
-use crate::message::Message;
+use crate::peer_view::PeerView;
 use crate::reply_view::{ReplyView, read_reply};
 use crate::request_view::{RequestView, read_request};
 use craft_base::{MemberId, OutOfMemory, Shape};
-use entry_frames::{Fields, FrameFault, GREATEST};
+use entry_frames::{Fields, FrameFault, GREATEST, Kind, Message, PeerKind};
 use std::alloc::Global;
 
-/// The byte that stands for a client in the place of a member.
+/// The byte that stands for a client in the cursor of a member.
 pub const CLIENT: u8 = 255;
 
 /// The first two bytes of each frame, and the version of the format behind them.
@@ -36,9 +33,9 @@ pub enum FrameView<'a> {
         from: MemberId,
         to: MemberId,
         term: u64,
-        body: BodyView<'a>,
+        body: PeerView<'a>,
     },
-    Asked {
+    Request {
         to: MemberId,
         request: RequestView<'a>,
     },
@@ -51,36 +48,36 @@ pub enum FrameView<'a> {
 }
 
 impl<'a> FrameView<'a> {
-    /// Reads a frame of a group off the front of what is left.
+    /// Reads a frame of a cluster off the front of what is left.
     pub fn read(fields: &mut Fields<'a>, shape: &Shape) -> Result<FrameView<'a>, FrameFault>
-        ensures exact { Reads frame_seen result fields.new (reading (frame_fields shape.now) fields.old) }
-        ensures need { IfOk result (FrameNeed shape.now.need) }
+        ensures exact { Reads message_of_view result fields.new (reading (frame_fields shape.now) fields.old) }
+        ensures need { IfOk result (FrameHasK shape.now.need) }
     {
         let faults = shape.faults();
-        let need = shape.need();
+        let k = shape.need();
         fields.byte(FIRST, FIRST)?;
         fields.byte(SECOND, SECOND)?;
         fields.byte(VERSION, VERSION)?;
         fields.byte(faults, faults)?;
-        fields.byte(need, need)?;
+        fields.byte(k, k)?;
         let kind = Kind::read(fields)?;
-        FrameView::read_as(fields, shape, need, kind)
+        FrameView::read_as(fields, shape, k, kind)
     }
 
     /// Its kind.
     pub fn kind(&self) -> Kind
-        ensures { kind_seen result ≡ kind_of (frame_seen self.now) }
+        ensures { result ≡ kind_of (message_of_view self.now) }
     {
         match self {
             FrameView::Peer { body, .. } => Kind::Peer(body.kind()),
-            FrameView::Asked { .. } => Kind::Asked,
+            FrameView::Request { .. } => Kind::Request,
             FrameView::Answered { .. } => Kind::Answered,
         }
     }
 
     /// A message of its own. The only error is want of memory.
     pub fn to_message(&self, alloc: Global) -> Result<Message, OutOfMemory>
-        ensures { IfOk result (λ message. frame_of message ≡ frame_seen self.now) }
+        ensures { IfOk result (λ message. message ≡ message_of_view self.now) }
     {
         match self {
             FrameView::Peer {
@@ -94,7 +91,7 @@ impl<'a> FrameView<'a> {
                 term: *term,
                 body: body.to_peer(alloc)?,
             }),
-            FrameView::Asked { to, request } => Ok(Message::Request {
+            FrameView::Request { to, request } => Ok(Message::Request {
                 to: *to,
                 request: request.to_request(alloc)?,
             }),
@@ -116,17 +113,17 @@ impl<'a> FrameView<'a> {
     fn read_as(
         fields: &mut Fields<'a>,
         shape: &Shape,
-        need: u8,
+        k: u8,
         kind: Kind,
     ) -> Result<FrameView<'a>, FrameFault>
-        requires needs { IsNeed need }
-        requires same { need ≡ shape.now.need }
-        ensures exact { Reads frame_seen result fields.new (reading (ends_fields shape.now (kind_seen kind)) fields.old) }
-        ensures need { IfOk result (FrameNeed shape.now.need) }
+        requires needs { IsK k }
+        requires same { k ≡ shape.now.need }
+        ensures exact { Reads message_of_view result fields.new (reading (ends_fields shape.now kind) fields.old) }
+        ensures need { IfOk result (FrameHasK shape.now.need) }
     {
         match kind {
-            Kind::Peer(kind) => FrameView::peer(fields, shape, need, kind),
-            Kind::Asked => FrameView::asked(fields, shape),
+            Kind::Peer(kind) => FrameView::peer(fields, shape, k, kind),
+            Kind::Request => FrameView::asked(fields, shape),
             Kind::Answered => FrameView::answered(fields, shape),
         }
     }
@@ -134,34 +131,34 @@ impl<'a> FrameView<'a> {
     fn peer(
         fields: &mut Fields<'a>,
         shape: &Shape,
-        need: u8,
-        kind: BodyKind,
+        k: u8,
+        kind: PeerKind,
     ) -> Result<FrameView<'a>, FrameFault>
-        requires needs { IsNeed need }
-        requires same { need ≡ shape.now.need }
-        ensures exact { Reads frame_seen result fields.new (reading (ends_fields shape.now (PeerKind (body_kind_seen kind))) fields.old) }
-        ensures need { IfOk result (FrameNeed shape.now.need) }
+        requires needs { IsK k }
+        requires same { k ≡ shape.now.need }
+        ensures exact { Reads message_of_view result fields.new (reading (ends_fields shape.now (kinds.Peer kind)) fields.old) }
+        ensures need { IfOk result (FrameHasK shape.now.need) }
     {
         let from = read_member(fields, shape)?;
         let to = read_member(fields, shape)?;
         fields.test(from.number() != to.number(), 1)?;
         let term = fields.u64(1, GREATEST)?;
-        FrameView::peer_said(fields, need, from, to, term, kind)
+        FrameView::peer_said(fields, k, from, to, term, kind)
     }
 
     fn peer_said(
         fields: &mut Fields<'a>,
-        need: u8,
+        k: u8,
         from: MemberId,
         to: MemberId,
         term: u64,
-        kind: BodyKind,
+        kind: PeerKind,
     ) -> Result<FrameView<'a>, FrameFault>
-        requires needs { IsNeed need }
-        ensures exact { Reads frame_seen result fields.new (reading (said_fields need from to term (body_kind_seen kind)) fields.old) }
-        ensures need { IfOk result (FrameNeed need) }
+        requires needs { IsK k }
+        ensures exact { Reads message_of_view result fields.new (reading (said_fields k from to term kind) fields.old) }
+        ensures need { IfOk result (FrameHasK k) }
     {
-        let body = BodyView::read(fields, need, term, kind)?;
+        let body = PeerView::read(fields, k, term, kind)?;
         Ok(FrameView::Peer {
             from,
             to,
@@ -171,7 +168,7 @@ impl<'a> FrameView<'a> {
     }
 
     fn asked(fields: &mut Fields<'a>, shape: &Shape) -> Result<FrameView<'a>, FrameFault>
-        ensures exact { Reads frame_seen result fields.new (reading (ends_fields shape.now AskedKind) fields.old) }
+        ensures exact { Reads message_of_view result fields.new (reading (ends_fields shape.now kinds.Request) fields.old) }
         ensures entryless { IfOk result HasNoBody }
     {
         let from = fields.byte(CLIENT, CLIENT)?;
@@ -181,15 +178,15 @@ impl<'a> FrameView<'a> {
     }
 
     fn request(fields: &mut Fields<'a>, to: MemberId) -> Result<FrameView<'a>, FrameFault>
-        ensures exact { Reads frame_seen result fields.new (reading (asked_fields to) fields.old) }
+        ensures exact { Reads message_of_view result fields.new (reading (asked_fields to) fields.old) }
         ensures entryless { IfOk result HasNoBody }
     {
         let request = read_request(fields)?;
-        Ok(FrameView::Asked { to, request })
+        Ok(FrameView::Request { to, request })
     }
 
     fn answered(fields: &mut Fields<'a>, shape: &Shape) -> Result<FrameView<'a>, FrameFault>
-        ensures exact { Reads frame_seen result fields.new (reading (ends_fields shape.now AnsweredKind) fields.old) }
+        ensures exact { Reads message_of_view result fields.new (reading (ends_fields shape.now kinds.Answered) fields.old) }
         ensures entryless { IfOk result HasNoBody }
     {
         let from = read_member(fields, shape)?;
@@ -203,7 +200,7 @@ impl<'a> FrameView<'a> {
         shape: &Shape,
         from: MemberId,
     ) -> Result<FrameView<'a>, FrameFault>
-        ensures exact { Reads frame_seen result fields.new (reading (answered_fields (members_of shape.now) from) fields.old) }
+        ensures exact { Reads message_of_view result fields.new (reading (answered_fields (members_of shape.now) from) fields.old) }
         ensures entryless { IfOk result HasNoBody }
     {
         let client = fields.u64(1, GREATEST)?;
@@ -218,7 +215,7 @@ impl<'a> FrameView<'a> {
         client: u64,
         seq: u64,
     ) -> Result<FrameView<'a>, FrameFault>
-        ensures exact { Reads frame_seen result fields.new (reading (replied_fields (members_of shape.now) from client seq) fields.old) }
+        ensures exact { Reads message_of_view result fields.new (reading (replied_fields (members_of shape.now) from client seq) fields.old) }
         ensures entryless { IfOk result HasNoBody }
     {
         match read_reply(fields, shape) {
@@ -233,7 +230,7 @@ impl<'a> FrameView<'a> {
     }
 }
 
-/// Reads a member of the group.
+/// Reads a member of the cluster.
 fn read_member(fields: &mut Fields<'_>, shape: &Shape) -> Result<MemberId, FrameFault>
     ensures { Reads (λ member. member) result fields.new (number_at true U8 (within 0 (members_of shape.now - 1)) fields.old) }
 {

@@ -1,15 +1,14 @@
 //! Messages, seen where they lie.
 ghost use Rattle.std.specs.Prelude.{◌≡◌, ◌≢◌, length, slice_get, IfOk, Ok};
 
-use crate::body_view::BodyView;
 use crate::frame_view::FrameView;
-use crate::message::Message;
+use crate::peer_view::PeerView;
 use craft_base::{MemberId, OutOfMemory, Shape};
-use entry_frames::{EntryView, Fields, FrameFault};
+use entry_frames::{EntryView, Fields, FrameFault, Kind, Message};
 use std::alloc::Global;
 use std::marker::Model;
 
-/// A message of a group, lent out of a datagram. It meets the ranges of docs/FORMATS.md, "Messages".
+/// A message of a cluster, lent out of a datagram. It meets the ranges of docs/FORMATS.md, "Messages".
 #[derive(Drop)]
 pub struct MessageView<'a> {
     shape: Shape,
@@ -17,38 +16,38 @@ pub struct MessageView<'a> {
 }
 
 impl<'a> Model for MessageView<'a> {
-    ghost use Rattle.peer_frames.specs.FrameViews.{ViewedFrame, IsFrame, frame_seen, FrameNeed};
+    ghost use Rattle.peer_frames.specs.FrameViews.{ViewedFrame, IsFrame, message_of_view, FrameHasK};
 
     ghost Value = { ViewedFrame };
 
-    ghost view = { λ v. record { group = v.shape; frame = frame_seen v.frame } };
+    ghost view = { λ v. record { shape = v.shape; frame = message_of_view v.frame } };
 
-    ghost invariant = { λ v. IsFrame (record { group = v.shape; frame = frame_seen v.frame }) × FrameNeed v.shape.need v.frame };
+    ghost invariant = { λ v. IsFrame (record { shape = v.shape; frame = message_of_view v.frame }) × FrameHasK v.shape.need v.frame };
 }
 
 impl<'a> MessageView<'a> {
     ghost use Rattle.entry_frames.specs.Formats.{Fits, front_of, spelling, reading, reading_all};
-    ghost use Rattle.entry_frames.specs.Kinds.{kind_byte, kind_of, AskedKind, AnsweredKind};
+    ghost use Rattle.entry_frames.specs.declared.message.Message.{Message};
+    ghost use Rattle.entry_frames.specs.declared.kind.Kind.TheVariants as kinds;
+    ghost use Rattle.entry_frames.specs.Kinds.{kind_byte, kind_of};
     ghost use Rattle.entry_frames.specs.MessageFields.{frame_fields};
     ghost use Rattle.entry_frames.specs.MessageParts.{sender_byte, receiver_byte, body_of, term_of, last_term_of, last_of, granted_of, prev_of, prev_term_of, commit_of, entries_of, verdict_of, mask_of, next_of, start_of};
-    ghost use Rattle.entry_frames.specs.Messages.{Frame};
     ghost use Rattle.entry_frames.specs.Steps.{ReadsAll};
     ghost use Rattle.entry_frames.specs.Logs.{viewed_with};
     ghost use Rattle.peer_frames.specs.FrameViews.{said_in, body_behind, entries_told, asker_of, asked_number_of};
-    ghost use Rattle.peer_frames.specs.Messages.{frame_of};
 
     /// Reads the message that these bytes are, all of them. Else the first fault from left to right; bytes behind the last
     /// field are out of range.
     pub fn read(shape: &Shape, bytes: &'a [u8]) -> Result<MessageView<'a>, FrameFault>
         // It is what the bytes spell, or the first field that ends past them or is out of range.
         ensures exact { ReadsAll (λ v. v.frame) result (reading_all (frame_fields shape.now) bytes.now) }
-        ensures group { IfOk result (λ v. v.group ≡ shape.now) }
+        ensures shape { IfOk result (λ v. v.shape ≡ shape.now) }
 
         // What is read is spelled so.
         ensures found { IfOk result (λ v. Fits (frame_fields shape.now) v.frame × (bytes.now ≡ spelling (frame_fields shape.now) v.frame)) }
 
         // What is spelled so is read.
-        ensures only { (f : Frame) → Fits (frame_fields shape.now) f → bytes.now ≡ spelling (frame_fields shape.now) f → ReadsAll (λ v. v.frame) result (Ok f) }
+        ensures only { (f : Message) → Fits (frame_fields shape.now) f → bytes.now ≡ spelling (frame_fields shape.now) f → ReadsAll (λ v. v.frame) result (Ok f) }
     {
         MessageView::all_of(shape, bytes)
     }
@@ -56,7 +55,7 @@ impl<'a> MessageView<'a> {
     /// The message that all of the bytes are.
     fn all_of(shape: &Shape, bytes: &'a [u8]) -> Result<MessageView<'a>, FrameFault>
         ensures exact { ReadsAll (λ v. v.frame) result (reading_all (frame_fields shape.now) bytes.now) }
-        ensures group { IfOk result (λ v. v.group ≡ shape.now) }
+        ensures shape { IfOk result (λ v. v.shape ≡ shape.now) }
     {
         let mut fields = Fields::of(bytes);
         let frame = FrameView::read(&mut fields, shape)?;
@@ -76,24 +75,31 @@ impl<'a> MessageView<'a> {
         self.frame.kind().byte()
     }
 
+    /// Its kind, by name.
+    pub fn message_kind(&self) -> Kind
+        ensures { result ≡ kind_of self.now.frame }
+    {
+        self.frame.kind()
+    }
+
     /// Who sends it: a member, where it isn't a client's request.
     pub fn from(&self) -> MemberId
-        requires { kind_of self.now.frame ≢ AskedKind }
+        requires { kind_of self.now.frame ≢ kinds.Request }
         ensures { result ≡ sender_byte self.now.frame }
     {
         match &self.frame {
             FrameView::Peer { from, .. } | FrameView::Answered { from, .. } => *from,
-            FrameView::Asked { .. } => unreachable!(),
+            FrameView::Request { .. } => unreachable!(),
         }
     }
 
     /// Who receives it: a member, where it isn't a reply to a client.
     pub fn to(&self) -> MemberId
-        requires { kind_of self.now.frame ≢ AnsweredKind }
+        requires { kind_of self.now.frame ≢ kinds.Answered }
         ensures { result ≡ receiver_byte self.now.frame }
     {
         match &self.frame {
-            FrameView::Peer { to, .. } | FrameView::Asked { to, .. } => *to,
+            FrameView::Peer { to, .. } | FrameView::Request { to, .. } => *to,
             FrameView::Answered { .. } => unreachable!(),
         }
     }
@@ -109,7 +115,7 @@ impl<'a> MessageView<'a> {
     }
 
     /// What a peer message says.
-    fn body(&self) -> Option<&BodyView<'a>>
+    fn body(&self) -> Option<&PeerView<'a>>
         ensures { body_behind result ≡ said_in self.now.frame }
     {
         match &self.frame {
@@ -123,7 +129,7 @@ impl<'a> MessageView<'a> {
         ensures { result ≡ last_term_of (body_of self.now.frame) }
     {
         match self.body() {
-            Some(BodyView::Vote { last_term, .. }) => *last_term,
+            Some(PeerView::Vote { last_term, .. }) => *last_term,
             _ => 0,
         }
     }
@@ -133,7 +139,7 @@ impl<'a> MessageView<'a> {
         ensures { result ≡ last_of (body_of self.now.frame) }
     {
         match self.body() {
-            Some(BodyView::Vote { last, .. } | BodyView::Answer { last, .. }) => *last,
+            Some(PeerView::Vote { last, .. } | PeerView::Answer { last, .. }) => *last,
             _ => 0,
         }
     }
@@ -143,7 +149,7 @@ impl<'a> MessageView<'a> {
         ensures { result ≡ granted_of (body_of self.now.frame) }
     {
         match self.body() {
-            Some(BodyView::VoteReply { granted }) => *granted,
+            Some(PeerView::VoteReply { granted }) => *granted,
             _ => false,
         }
     }
@@ -153,7 +159,7 @@ impl<'a> MessageView<'a> {
         ensures { result ≡ prev_of (body_of self.now.frame) }
     {
         match self.body() {
-            Some(BodyView::Append { prev, .. } | BodyView::Matched { prev, .. }) => *prev,
+            Some(PeerView::Append { prev, .. } | PeerView::Matched { prev, .. }) => *prev,
             _ => 0,
         }
     }
@@ -163,7 +169,7 @@ impl<'a> MessageView<'a> {
         ensures { result ≡ prev_term_of (body_of self.now.frame) }
     {
         match self.body() {
-            Some(BodyView::Append { prev_term, .. }) => *prev_term,
+            Some(PeerView::Append { prev_term, .. }) => *prev_term,
             _ => 0,
         }
     }
@@ -173,7 +179,7 @@ impl<'a> MessageView<'a> {
         ensures { result ≡ commit_of (body_of self.now.frame) }
     {
         match self.body() {
-            Some(BodyView::Append { commit, .. }) => *commit,
+            Some(PeerView::Append { commit, .. }) => *commit,
             _ => 0,
         }
     }
@@ -183,9 +189,9 @@ impl<'a> MessageView<'a> {
         ensures { result ≡ entries_told (body_of self.now.frame) }
     {
         match self.body() {
-            Some(BodyView::Append { entries, .. }) => entries.len(),
-            Some(BodyView::Answer { slots, .. }) => slots.len(),
-            Some(BodyView::Matched { count, .. }) => *count,
+            Some(PeerView::Append { entries, .. }) => entries.len(),
+            Some(PeerView::Answer { slots, .. }) => slots.len(),
+            Some(PeerView::Matched { count, .. }) => *count,
             _ => 0,
         }
     }
@@ -195,7 +201,7 @@ impl<'a> MessageView<'a> {
         ensures { result ≡ verdict_of (body_of self.now.frame) }
     {
         match self.body() {
-            Some(BodyView::Matched { .. }) => true,
+            Some(PeerView::Matched { .. }) => true,
             _ => false,
         }
     }
@@ -205,7 +211,7 @@ impl<'a> MessageView<'a> {
         ensures { result ≡ mask_of (body_of self.now.frame) }
     {
         match self.body() {
-            Some(BodyView::Matched { mask, .. }) => *mask,
+            Some(PeerView::Matched { mask, .. }) => *mask,
             _ => 0,
         }
     }
@@ -215,7 +221,7 @@ impl<'a> MessageView<'a> {
         ensures { result ≡ next_of (body_of self.now.frame) }
     {
         match self.body() {
-            Some(BodyView::Refused { next }) => *next,
+            Some(PeerView::Refused { next }) => *next,
             _ => 0,
         }
     }
@@ -225,7 +231,7 @@ impl<'a> MessageView<'a> {
         ensures { result ≡ start_of (body_of self.now.frame) }
     {
         match self.body() {
-            Some(BodyView::Ask { start } | BodyView::Answer { start, .. }) => *start,
+            Some(PeerView::Ask { start } | PeerView::Answer { start, .. }) => *start,
             _ => 0,
         }
     }
@@ -233,7 +239,7 @@ impl<'a> MessageView<'a> {
     /// The entry with that number of an Append or an Answer, counted from 0 and lent out of the datagram; `None` exactly where
     /// it has no more than `n`.
     pub fn entry(&self, n: u8) -> Option<EntryView<'a>>
-        ensures { result ≡ viewed_with self.now.group.need (slice_get (entries_of (body_of self.now.frame)) n) }
+        ensures { result ≡ viewed_with self.now.shape.need (slice_get (entries_of (body_of self.now.frame)) n) }
     {
         match &self.frame {
             FrameView::Peer { body, .. } => body.entry(n),
@@ -247,7 +253,7 @@ impl<'a> MessageView<'a> {
     {
         match &self.frame {
             FrameView::Peer { .. } => 0,
-            FrameView::Asked { request, .. } => request.client,
+            FrameView::Request { request, .. } => request.client,
             FrameView::Answered { client, .. } => *client,
         }
     }
@@ -258,14 +264,14 @@ impl<'a> MessageView<'a> {
     {
         match &self.frame {
             FrameView::Peer { .. } => 0,
-            FrameView::Asked { request, .. } => request.seq,
+            FrameView::Request { request, .. } => request.seq,
             FrameView::Answered { seq, .. } => *seq,
         }
     }
 
     /// A message of its own. The only error is want of memory.
     pub fn to_message(&self, alloc: Global) -> Result<Message, OutOfMemory>
-        ensures { IfOk result (λ message. frame_of message ≡ self.now.frame) }
+        ensures { IfOk result (λ message. message ≡ self.now.frame) }
     {
         self.frame.to_message(alloc)
     }

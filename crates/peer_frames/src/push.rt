@@ -3,11 +3,10 @@ ghost use Rattle.std.specs.Prelude.{◌≡◌, ◌≤◌, ◌++◌, length, map,
 ghost use Rattle.std.specs.List.{flat_map, AllByRecursion};
 ghost use Rattle.entry_frames.specs.Entries.{entry_fields};
 ghost use Rattle.entry_frames.specs.Formats.{Fits, U8, U32, U64, number_bytes, spelling};
-ghost use Rattle.entry_frames.specs.Views.{IsNeed};
+ghost use Rattle.entry_frames.specs.Views.{IsK};
 
-use crate::batch::Batch;
 use craft_base::OutOfMemory;
-use entry_frames::{EntryView, write_entry};
+use entry_frames::{Batch, EntryView, write_entry};
 
 /// A number of one byte.
 pub fn push_byte(frame: &mut Vec<u8>, number: u8) -> Result<(), OutOfMemory>
@@ -53,14 +52,14 @@ pub fn push_bytes(frame: &mut Vec<u8>, bytes: &[u8]) -> Result<(), OutOfMemory>
 }
 
 /// The entries of a message, one after the other.
-pub fn push_entries(frame: &mut Vec<u8>, need: u8, entries: &Batch) -> Result<(), OutOfMemory>
-    requires needs { IsNeed need }
-    requires fit { AllByRecursion (Fits (entry_fields need)) entries.now }
-    ensures { OnOk result (frame.new.items ≡ frame.old.items ++ flat_map (spelling (entry_fields need)) entries.now) }
+pub fn push_entries(frame: &mut Vec<u8>, k: u8, entries: &Batch) -> Result<(), OutOfMemory>
+    requires needs { IsK k }
+    requires fit { AllByRecursion (Fits (entry_fields k)) entries.now }
+    ensures { OnOk result (frame.new.items ≡ frame.old.items ++ flat_map (spelling (entry_fields k)) entries.now) }
 {
     for n in 0..entries.len() {
         if let Some(entry) = entries.at(n) {
-            write_entry(*frame.allocator(), frame, &EntryView::of(need, entry))?;
+            write_entry(*frame.allocator(), frame, &EntryView::of(k, entry))?;
         }
     }
     Ok(())

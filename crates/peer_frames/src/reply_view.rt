@@ -1,15 +1,14 @@
 //! Replies to clients, seen where they lie.
 ghost use Rattle.std.specs.Prelude.{◌≡◌, true, IfOk};
-ghost use Rattle.craft_base.specs.Parameters.{members_of};
+ghost use Rattle.craft_base.specs.Shape.{members_of};
 ghost use Rattle.entry_frames.specs.Formats.{U8, number_at, reading};
-ghost use Rattle.entry_frames.specs.Replies.{reply_fields, reply_fields_of, Found as FoundKind, member_with, is_hint_byte};
+ghost use Rattle.entry_frames.specs.declared.reply_kind.ReplyKind.TheVariants as reply_kinds;
+ghost use Rattle.entry_frames.specs.Replies.{reply_fields, reply_fields_of, member_with, is_hint_byte};
 ghost use Rattle.entry_frames.specs.Steps.{Reads, ReadsByte};
-ghost use Rattle.peer_frames.specs.KindViews.{reply_kind_seen};
-ghost use Rattle.peer_frames.specs.RequestViews.{reply_seen};
+ghost use Rattle.peer_frames.specs.RequestViews.{reply_of_view};
 
-use crate::reply_kind::ReplyKind;
 use craft_base::{Blob, MemberId, OutOfMemory, Reply, Shape};
-use entry_frames::{Fields, FrameFault, LAST_PLACE, LONGEST_VALUE};
+use entry_frames::{Fields, FrameFault, LAST_PLACE, LONGEST_VALUE, ReplyKind};
 use std::alloc::Global;
 
 /// What a client is told; a value is lent.
@@ -30,7 +29,7 @@ pub enum ReplyView<'a> {
 impl<'a> ReplyView<'a> {
     /// A reply of its own. The only error is want of memory.
     pub fn to_reply(&self, alloc: Global) -> Result<Reply, OutOfMemory>
-        ensures { IfOk result (λ reply. reply ≡ reply_seen self.now) }
+        ensures { IfOk result (λ reply. reply ≡ reply_of_view self.now) }
     {
         Ok(match self {
             ReplyView::Done(version) => Reply::Done(*version),
@@ -52,7 +51,7 @@ impl<'a> ReplyView<'a> {
 
 /// Reads a reply off the front of what is left of a frame.
 pub fn read_reply<'a>(fields: &mut Fields<'a>, shape: &Shape) -> Result<ReplyView<'a>, FrameFault>
-    ensures { Reads reply_seen result fields.new (reading (reply_fields (members_of shape.now)) fields.old) }
+    ensures { Reads reply_of_view result fields.new (reading (reply_fields (members_of shape.now)) fields.old) }
 {
     let kind = ReplyKind::read(fields)?;
     reply_of_kind(fields, shape, kind)
@@ -64,7 +63,7 @@ fn reply_of_kind<'a>(
     shape: &Shape,
     kind: ReplyKind,
 ) -> Result<ReplyView<'a>, FrameFault>
-    ensures { Reads reply_seen result fields.new (reading (reply_fields_of (members_of shape.now) (reply_kind_seen kind)) fields.old) }
+    ensures { Reads reply_of_view result fields.new (reading (reply_fields_of (members_of shape.now) kind) fields.old) }
 {
     match kind {
         ReplyKind::Done => Ok(ReplyView::Done(fields.u64(0, LAST_PLACE)?)),
@@ -82,7 +81,7 @@ fn reply_of_kind<'a>(
 
 /// Reads a version and a value.
 fn read_found<'a>(fields: &mut Fields<'a>) -> Result<ReplyView<'a>, FrameFault>
-    ensures { Reads reply_seen result fields.new (reading (reply_fields_of 0 FoundKind) fields.old) }
+    ensures { Reads reply_of_view result fields.new (reading (reply_fields_of 0 reply_kinds.Found) fields.old) }
 {
     let version = fields.u64(0, LAST_PLACE)?;
     let vlen = fields.u32(0, LONGEST_VALUE)?;

@@ -4,7 +4,7 @@ ghost use Rattle.entry_frames.specs.Formats.{U8, number_at, reading};
 ghost use Rattle.entry_frames.specs.MessageFields.{is_request_byte, request_fields, request_fields_of};
 ghost use Rattle.entry_frames.specs.Operations.{op_kind_with};
 ghost use Rattle.entry_frames.specs.Steps.{Reads, ReadsByte};
-ghost use Rattle.peer_frames.specs.RequestViews.{request_seen};
+ghost use Rattle.peer_frames.specs.RequestViews.{request_of_view};
 
 use craft_base::{Blob, Op, OutOfMemory, Request};
 use entry_frames::{Fields, FrameFault, GREATEST, LONGEST_VALUE, OpKind};
@@ -23,7 +23,7 @@ pub struct RequestView<'a> {
 impl<'a> RequestView<'a> {
     /// A request of its own. The only error is want of memory.
     pub fn to_request(&self, alloc: Global) -> Result<Request, OutOfMemory>
-        ensures { IfOk result (λ request. request ≡ request_seen self.now) }
+        ensures { IfOk result (λ request. request ≡ request_of_view self.now) }
     {
         Ok(Request {
             client: self.client,
@@ -37,7 +37,7 @@ impl<'a> RequestView<'a> {
 
 /// Reads a request off the front of what is left of a frame.
 pub fn read_request<'a>(fields: &mut Fields<'a>) -> Result<RequestView<'a>, FrameFault>
-    ensures { Reads request_seen result fields.new (reading request_fields fields.old) }
+    ensures { Reads request_of_view result fields.new (reading request_fields fields.old) }
 {
     let client = fields.u64(1, GREATEST)?;
     let seq = fields.u64(1, GREATEST)?;
@@ -64,7 +64,7 @@ fn request_behind_op<'a>(
     seq: u64,
     kind: OpKind,
 ) -> Result<RequestView<'a>, FrameFault>
-    ensures { Reads request_seen result fields.new (reading (request_fields_of client seq kind) fields.old) }
+    ensures { Reads request_of_view result fields.new (reading (request_fields_of client seq kind) fields.old) }
 {
     let expected = fields.u64_if(kind.expects(), 0, GREATEST)?;
     let key_len = fields.byte(1, u8::MAX)?;

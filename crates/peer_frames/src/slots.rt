@@ -1,21 +1,17 @@
 //! The entries of a message, seen where they lie.
 ghost use Rattle.std.specs.Prelude.{◌≡◌, ◌≤◌, ◌<◌, ◌∷◌, ◌++◌, [], length, map, slice_get, IfOk};
 ghost use Rattle.entry_frames.specs.Formats.{reading};
-ghost use Rattle.entry_frames.specs.Limits.{most_entry_bytes};
+ghost use Rattle.entry_frames.specs.Limits.{most_entries, most_entry_bytes};
 ghost use Rattle.entry_frames.specs.MessageFields.{entries_fields, least_next};
 ghost use Rattle.entry_frames.specs.Steps.{Reads};
-ghost use Rattle.entry_frames.specs.Views.{IsNeed};
-ghost use Rattle.peer_frames.specs.SlotViews.{entries_seen, AllNeed};
+ghost use Rattle.entry_frames.specs.Views.{IsK};
+ghost use Rattle.peer_frames.specs.SlotViews.{entries_of_views, AllHaveK};
 
-use crate::batch::{Batch, MOST_ENTRIES};
 use arrayvec::ArrayVec;
 use craft_base::OutOfMemory;
-use entry_frames::{EntryView, Fields, FrameFault};
+use entry_frames::{Batch, EntryView, Fields, FrameFault, MOST_ENTRIES, MOST_ENTRY_BYTES};
 use std::alloc::Global;
 use std::marker::Model;
-
-/// The most bytes of a message's entries.
-const MOST_ENTRY_BYTES: usize = 56_000;
 
 /// At most eight entries, lent out of a frame.
 #[derive(Drop)]
@@ -26,7 +22,7 @@ pub struct Slots<'a> {
 impl<'a> Model for Slots<'a> {
     ghost use Rattle.std.specs.Prelude.{List};
     ghost use Rattle.entry_frames.specs.Views.{Viewed};
-    ghost use Rattle.peer_frames.specs.Batches.{all_some, IsBatch};
+    ghost use Rattle.entry_frames.specs.Batches.{all_some, IsBatch};
 
     ghost Value = { List Viewed };
 
@@ -48,7 +44,7 @@ impl<'a> Slots<'a> {
     /// How many entries there are: at most 8.
     pub fn len(&self) -> u8
         ensures value { result ≡ length self.now }
-        ensures range { result ≤ 8 }
+        ensures range { result ≤ most_entries }
     {
         self.views.len() as u8
     }
@@ -75,23 +71,23 @@ impl<'a> Slots<'a> {
     /// `low`, and so have the others, or, where terms rise, each at least the one before.
     pub fn read(
         fields: &mut Fields<'a>,
-        need: u8,
+        k: u8,
         rises: bool,
         high: u64,
         count: u8,
         low: u64,
     ) -> Result<Slots<'a>, FrameFault>
-        requires needs { IsNeed need }
-        requires room { count ≤ 8 }
-        ensures exact { Reads entries_seen result fields.new (reading (entries_fields need rises high count low most_entry_bytes) fields.old) }
-        ensures need { IfOk result (AllNeed need) }
+        requires needs { IsK k }
+        requires room { count ≤ most_entries }
+        ensures exact { Reads entries_of_views result fields.new (reading (entries_fields k rises high count low most_entry_bytes) fields.old) }
+        ensures need { IfOk result (AllHaveK k) }
     {
         let mut slots = Slots::new();
         let mut low = low;
         let mut room = MOST_ENTRY_BYTES;
         for _ in 0..count {
             let before = fields.rest();
-            let view = EntryView::take(fields, need, low, high)?;
+            let view = EntryView::take(fields, k, low, high)?;
             let size = before.len() - fields.rest().len();
             fields.test(size <= room, size)?;
             room -= size;
@@ -103,7 +99,7 @@ impl<'a> Slots<'a> {
 
     /// Entries of their own. The only error is want of memory.
     pub fn to_batch(&self, alloc: Global) -> Result<Batch, OutOfMemory>
-        ensures { IfOk result (λ batch. batch ≡ entries_seen self.now) }
+        ensures { IfOk result (λ batch. batch ≡ entries_of_views self.now) }
     {
         let mut batch = Batch::new();
         for n in 0..self.len() {

@@ -10,22 +10,7 @@ use rand_xoshiro::rand_core::{Rng, SeedableRng};
 use std::alloc::{AllocError, Global};
 use std::process::Abort;
 use std::test::Fail;
-
-/// The bytes of a text of hexadecimal digits and blanks.
-fn bytes_of(alloc: Global, text: &str) -> Result<Vec<u8>, Fail> {
-    let mut digits = String::new(alloc);
-    for word in text.split_whitespace() {
-        digits.push_str(word)?;
-    }
-    Ok(hex::decode(alloc, digits)?)
-}
-
-/// Some bytes and then others.
-fn joined(alloc: Global, front: &[u8], rest: &[u8]) -> Result<Vec<u8>, AllocError> {
-    let mut bytes = front.to_vec(alloc)?;
-    bytes.extend_from_slice(rest)?;
-    Ok(bytes)
-}
+use test_text::{bytes_of, joined};
 
 // ---- what is read
 
@@ -390,7 +375,7 @@ fn messages_of_clients_are_as_by_hand(rt: HostRuntime) -> Result<(), Fail> {
 
 // ---- what isn't read
 
-/// Good messages of a group of F = 1, k = 2, and how each is spoilt: the offset of what is put in, those bytes, and the offset
+/// Good messages of a cluster of F = 1, k = 2, and how each is spoilt: the offset of what is put in, those bytes, and the offset
 /// that is then out of range.
 const SPOILT: [(&str, &str); 18] = [
     // a Vote
@@ -634,10 +619,10 @@ const ENTRIES: [&str; 8] = [
 ];
 
 /// The length of a value, and then a fragment of it.
-fn push_part(alloc: Global, frame: &mut Vec<u8>, len: u32, need: u8) -> Result<(), AllocError>
-    requires { 1 ≤ need }
+fn push_part(alloc: Global, frame: &mut Vec<u8>, len: u32, k: u8) -> Result<(), AllocError>
+    requires { 1 ≤ k }
 {
-    let held = part_len(len as usize, need);
+    let held = part_len(len as usize, k);
     frame.extend_from_slice(&len.to_be_bytes())?;
     frame.extend_from_slice(&vec![in alloc; 0x70; held]?)?;
     Ok(())
@@ -649,10 +634,10 @@ fn push_made(
     alloc: Global,
     frame: &mut Vec<u8>,
     rng: &mut SplitMix64,
-    need: u8,
+    k: u8,
     letter: u8,
 ) -> Result<(), AllocError>
-    requires { 1 ≤ need }
+    requires { 1 ≤ k }
 {
     let word = rng.next_u64();
     let small = (word >> 8) % 4;
@@ -675,7 +660,7 @@ fn push_made(
             frame.extend_from_slice(&(small as u32).to_be_bytes())?;
             frame.extend_from_slice(some)?;
         }
-        b'p' => push_part(alloc, frame, small as u32, need)?,
+        b'p' => push_part(alloc, frame, small as u32, k)?,
         _ => {}
     }
     Ok(())
@@ -700,9 +685,9 @@ fn change(frame: &mut Vec<u8>, word: u64) -> Result<(), AllocError> {
     Ok(())
 }
 
-/// A made message of a group, or one with a byte changed, added or left out.
+/// A made message of a cluster, or one with a byte changed, added or left out.
 fn made_frame(alloc: Global, shape: &Shape, rng: &mut SplitMix64) -> Result<Vec<u8>, Fail> {
-    let need = shape.need();
+    let k = shape.need();
     let word = rng.next_u64();
     let (kind, letters) = BODIES[((word >> 8) % 26) as usize];
     let from = ((word >> 16) % 3) as u8;
@@ -713,16 +698,16 @@ fn made_frame(alloc: Global, shape: &Shape, rng: &mut SplitMix64) -> Result<Vec<
         8 => [from, CLIENT],
         _ => [from, to],
     };
-    frame.extend_from_slice(&[shape.faults(), need, kind])?;
+    frame.extend_from_slice(&[shape.faults(), k, kind])?;
     frame.extend_from_slice(&ends)?;
     for letter in letters.bytes() {
         if letter == b'e' {
             let parts = ENTRIES[(rng.next_u64() % 8) as usize];
             for part in parts.bytes() {
-                push_made(alloc, &mut frame, rng, need, part)?;
+                push_made(alloc, &mut frame, rng, k, part)?;
             }
         } else {
-            push_made(alloc, &mut frame, rng, need, letter)?;
+            push_made(alloc, &mut frame, rng, k, letter)?;
         }
     }
     change(&mut frame, word)?;

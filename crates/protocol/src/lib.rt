@@ -1,7 +1,7 @@
 //! The replication protocol over members, terms and log entries, without datagrams, bytes, ticks or printed lines, and the
 //! laws that make it safe. Nothing here runs: each function states a law as its contract, over every run of moves from the
 //! start. `specs/` has the definitions: `History` is the state, `Moves` what may happen, `Laws` what each function says.
-//! `docs/PROOFS.md` tells the argument.
+//! `docs/proofs/PROTOCOL.md` tells the argument.
 #![tactic(auto)]
 
 ghost use Rattle.protocol.specs.Laws.{CommitsAreDecided, CommitsGrow, CutStaysUndecided, DecidedStaysUncut, FrontsAgree, FrontsStay, HistoryGrows, IsRebuilt, OneLeader, OneWinner, OthersStay, SomeRunCuts, SomeRunDecides};

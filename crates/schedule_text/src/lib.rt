@@ -2,16 +2,17 @@
 #![tactic(auto)]
 
 mod forms;
-mod line;
+mod line_fault;
 mod message;
 mod output;
 mod reading;
 mod reply;
 mod words;
 
-pub use line::{Inner, Line, LineFault};
+pub use line_fault::LineFault;
 pub use output::line_of;
 pub use reading::read_line;
+pub use world_model::{Inner, Line};
 
 #[cfg(test)]
 mod tests;

@@ -1,10 +1,9 @@
 //! What a member sends, as a line.
 ghost use Rattle.std.specs.Prelude.{◌≡◌, ◌++◌, OnOk, string_bytes};
-ghost use Rattle.entry_frames.specs.Messages as plain;
-ghost use Rattle.entry_frames.specs.Outputs.{Send};
-ghost use Rattle.peer_frames.specs.Messages.{body_of, frame_of};
-ghost use Rattle.world_model.specs.Lines.{line_of, message_words, output_line};
-ghost use Rattle.schedule_text.specs.Sends.{IsPeer};
+ghost use Rattle.entry_frames.specs.declared.peer.Peer.TheVariants as peers;
+ghost use Rattle.entry_frames.specs.declared.output.Output.TheVariants as outputs;
+ghost use Rattle.world_model.specs.Lines.{line_of, peer_words, output_line};
+ghost use Rattle.entry_frames.specs.MessageParts.{IsPeer};
 
 use crate::forms::forms_word;
 use crate::words::{byte_word, yes_or_no};
@@ -21,7 +20,7 @@ pub fn push_message(
     message: &Message,
 ) -> Result<(), OutOfMemory>
     requires { IsPeer message.now }
-    ensures { OnOk result ((m : plain.Message) → frame_of message.now ≡ plain.Peer m → string_bytes text.new ≡ string_bytes text.old ++ output_line 0 frame (Send m)) }
+    ensures { OnOk result (string_bytes text.new ≡ string_bytes text.old ++ output_line 0 frame (outputs.Send message.now)) }
 {
     match message {
         Message::Peer {
@@ -42,7 +41,7 @@ pub fn push_message(
 
 /// Adds what a message says, with its sender's term, and a line feed.
 fn push_body(alloc: Global, text: &mut String, term: u64, body: &Peer) -> Result<(), OutOfMemory>
-    ensures { OnOk result (string_bytes text.new ≡ string_bytes text.old ++ line_of (message_words term (body_of body.now))) }
+    ensures { OnOk result (string_bytes text.new ≡ string_bytes text.old ++ line_of (peer_words term body.now)) }
 {
     match body {
         Peer::Vote { last_term, last } => writeln!(text, "vote {term} {last_term} {last}")?,
@@ -81,7 +80,7 @@ fn push_matched(
     count: u8,
     mask: u8,
 ) -> Result<(), OutOfMemory>
-    ensures { OnOk result (string_bytes text.new ≡ string_bytes text.old ++ line_of (message_words term (plain.Matched prev count mask))) }
+    ensures { OnOk result (string_bytes text.new ≡ string_bytes text.old ++ line_of (peer_words term (peers.Matched prev count mask))) }
 {
     let mask = byte_word(alloc, mask)?;
     writeln!(text, "matched {term} {prev} {count} {mask}")?;

@@ -1,7 +1,5 @@
 //! What a member tells, as a line.
 ghost use Rattle.std.specs.Prelude.{◌≡◌, ◌++◌, OnOk, OnErr, string_bytes};
-ghost use Rattle.entry_frames.specs.Outputs as outputs;
-ghost use Rattle.peer_frames.specs.Messages.{IsOutput};
 ghost use Rattle.world_model.specs.Lines.{output_line};
 ghost use Rattle.schedule_text.specs.Sends.{SendsPeer};
 
@@ -23,7 +21,7 @@ pub fn line_of(
     output: &Output,
 ) -> Result<(), OutOfMemory>
     requires { SendsPeer output.now }
-    ensures line { OnOk result ((o : outputs.Output) → IsOutput output.now o → out.new.items ≡ out.old.items ++ output_line me frame o) }
+    ensures line { OnOk result (out.new.items ≡ out.old.items ++ output_line me frame output.now) }
 
     // After an error the text is as it was.
     ensures kept { OnErr result (out.new.items ≡ out.old.items) }
@@ -43,7 +41,7 @@ fn push_output(
     output: &Output,
 ) -> Result<(), OutOfMemory>
     requires { SendsPeer output.now }
-    ensures { OnOk result ((o : outputs.Output) → IsOutput output.now o → string_bytes text.new ≡ string_bytes text.old ++ output_line me frame o) }
+    ensures { OnOk result (string_bytes text.new ≡ string_bytes text.old ++ output_line me frame output.now) }
 {
     let me = me.number();
     match output {

@@ -1,22 +1,21 @@
 //! The grammar of a schedule's lines.
 ghost use Rattle.std.specs.Prelude.{◌≡◌, map, Some, None, IfOk, IfErr};
-ghost use Rattle.std.specs.Option.{option_map};
-ghost use Rattle.world_model.specs.Schedule.{event_of, event_of_words, tick_line, take_line};
-ghost use Rattle.schedule_text.specs.declared.line.LineFault.TheVariants.{Bad};
-ghost use Rattle.schedule_text.specs.Events.{inner_of_event, line_of_event};
+ghost use Rattle.world_model.specs.Schedule.{line_in, inner_of_words, tick_line, take_line};
+ghost use Rattle.schedule_text.specs.declared.line_fault.LineFault.TheVariants.{Bad};
 
-use crate::line::{Inner, Line, LineFault};
+use crate::line_fault::LineFault;
 use craft_base::{MemberId, Shape};
 use line_input::{number, words};
 use std::alloc::Global;
+use world_model::{Inner, Line};
 
-/// What a line of a group's schedule asks for. The line comes without its line feed.
+/// What a line of a cluster's schedule asks for. The line comes without its line feed.
 pub fn read_line(alloc: Global, shape: &Shape, line: &[u8]) -> Result<Line, LineFault>
-    // It is the event that the line spells.
-    ensures good { IfOk result (λ read. Some read ≡ option_map line_of_event (event_of shape.now line.now)) }
+    // It is the line that the text spells.
+    ensures good { IfOk result (λ read. Some read ≡ line_in shape.now line.now) }
 
-    // It is bad only where the line spells no event in range; the only other error is want of memory.
-    ensures bad { IfErr result (λ fault. fault ≡ Bad → event_of shape.now line.now ≡ None) }
+    // It is bad only where the text spells no line in range; the only other error is want of memory.
+    ensures bad { IfErr result (λ fault. fault ≡ Bad → line_in shape.now line.now ≡ None) }
 {
     let words = words(alloc, line)?;
     inner_of(shape, &words).map(Line::Do).ok_or(LineFault::Bad)
@@ -24,7 +23,7 @@ pub fn read_line(alloc: Global, shape: &Shape, line: &[u8]) -> Result<Line, Line
 
 /// What the words of a line say.
 fn inner_of(shape: &Shape, words: &[&[u8]]) -> Option<Inner>
-    ensures { result ≡ option_map inner_of_event (event_of_words shape.now (map (λ word. word.now) words.now)) }
+    ensures { result ≡ inner_of_words shape.now (map (λ word. word.now) words.now) }
 {
     match words {
         [name, member, word] => tick_of(shape, name, member, word),
@@ -33,9 +32,9 @@ fn inner_of(shape: &Shape, words: &[&[u8]]) -> Option<Inner>
     }
 }
 
-/// `tick i word`: the member is one of the group's.
+/// `tick i word`: the member is one of the cluster's.
 fn tick_of(shape: &Shape, name: &[u8], member: &[u8], word: &[u8]) -> Option<Inner>
-    ensures { result ≡ option_map inner_of_event (tick_line shape.now name.now member.now word.now) }
+    ensures { result ≡ tick_line shape.now name.now member.now word.now }
 {
     if name != b"tick".as_slice() {
         return None;
@@ -51,7 +50,7 @@ fn tick_of(shape: &Shape, name: &[u8], member: &[u8], word: &[u8]) -> Option<Inn
 
 /// `take m`: frames are numbered from 1.
 fn take_of(name: &[u8], frame: &[u8]) -> Option<Inner>
-    ensures { result ≡ option_map inner_of_event (take_line name.now frame.now) }
+    ensures { result ≡ take_line name.now frame.now }
 {
     if name != b"take".as_slice() {
         return None;

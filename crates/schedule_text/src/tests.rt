@@ -8,7 +8,7 @@ use std::alloc::Global;
 use std::process::Abort;
 use std::test::Fail;
 
-/// The member of that number in a group of three.
+/// The member of that number in a cluster of three.
 fn member(number: u8) -> MemberId {
     match Shape::new(1, 2) {
         Ok(shape) => MemberId::new(&shape, number).unwrap_or_default(),

@@ -1,6 +1,5 @@
 //! The words of a line that aren't numbers.
 ghost use Rattle.std.specs.Prelude.{◌≡◌, IfOk, string_bytes};
-ghost use Rattle.peer_frames.specs.Messages.{role_of};
 ghost use Rattle.world_model.specs.Lines as lines;
 
 use line_input::digits_of;
@@ -9,7 +8,7 @@ use std::alloc::{AllocError, Global};
 
 /// A role by its name.
 pub fn role_word(role: Role) -> &'static str
-    ensures { result.now ≡ lines.role_word (role_of role) }
+    ensures { result.now ≡ lines.role_word role }
 {
     match role {
         Role::Follower => "follower",

@@ -9,8 +9,9 @@ use Rattle.entry_frames.specs.Durable.{born}
 use Rattle.entry_frames.specs.Records.{Record, group_bytes}
 use Rattle.synced_log.specs.declared.owner.Owner.{Owner}
 use Rattle.synced_log.specs.Crashes.{TornFrom}
-use Rattle.synced_log.specs.Journal.{group_of, header, open_group, open_groups, body_of, IsGroupOf, after_groups, front_of, IsJournal, IsJournalTo, HasNext}
+use Rattle.synced_log.specs.Journal.{shape_of, header, open_group, open_groups, body_of, IsGroupOf, after_groups, front_of, IsJournal, IsJournalTo, HasNext}
 use Rattle.synced_log.specs.Standing.{Added, AddedOrNot}
+use Rattle.synced_log.specs.Stops.{StopLeaves}
 use Rattle.synced_log.proofs.Creating.{written_inside}
 use Rattle.synced_log.proofs.Walking.{are_groups-push, open_groups-push}
 
@@ -92,7 +93,20 @@ module _ (o : Owner) (groups : List (List Record)) (file : List ℕ) (gate : ℕ
         ∙ ap (λ (l : List ℕ). l ++ (1 ∷ drop (gate + 1) (gated o groups g body rest))) (front_kept g rest)
         ∙ ap (λ (l : List ℕ). front_of o groups ++ (1 ∷ l)) (back_kept g rest)
 
-    module _ (records : List Record) (body_is : body ≡ body_of o.k records) (can : IsGroupOf (group_of o) (after_groups born groups) records) where
+    -- the group stands whole in each outcome of the second write, behind the byte at the gate
+    torn_gated : (g : ℕ) (rest image : List ℕ) → Torn gate (1 ∷ []) (gated o groups g body rest) image → image ≡ gated o groups (get_or image gate 0) body rest
+    torn_gated g rest image torn =
+        let long = length_gated g rest in
+        let all : min gate (length (gated o groups g body rest)) ≡ gate = omega (arith, long) in
+        let kept : take gate image ≡ front_of o groups = subst (λ n. take n image ≡ take n (gated o groups g body rest)) all torn.before ∙ front_kept g rest in
+        let x = get_or image gate 0 in
+        let back : drop gate image ≡ x ∷ (group_bytes body ++ rest) = drop_more image gate 0 (omega (arith, long, torn.no_shorter)) ∙ ap (λ (l : List ℕ). x ∷ l) (torn.after ∙ back_kept g rest) in
+        sym (take-append-drop gate image) ∙ (λ i. kept i ++ back i)
+
+    pub gate_lacks : (g : ℕ) (rest image : List ℕ) → Torn gate (1 ∷ []) (gated o groups g body rest) image → get_or image gate 0 ≢ 1 → IsJournal image o groups
+    gate_lacks g rest image torn other = subst (λ (l : List ℕ). IsJournal l o groups) (sym (torn_gated g rest image torn)) (shut (get_or image gate 0) (group_bytes body ++ rest) other)
+
+    module _ (records : List Record) (body_is : body ≡ body_of o.k records) (can : IsGroupOf (shape_of o) (after_groups born groups) records) where
       more_front : front_of o (groups ++ records ∷ []) ≡ front_of o groups ++ open_group body
       more_front =
           ap (λ (l : List ℕ). header o ++ l) (open_groups-push o.k groups records) ∙ sym (append_assoc (header o) (open_groups o.k groups) (open_group (body_of o.k records)))
@@ -109,7 +123,7 @@ module _ (o : Owner) (groups : List (List Record)) (file : List ℕ) (gate : ℕ
       pub counts : (rest : List ℕ) → IsJournal (gated o groups 1 body rest) o (groups ++ records ∷ [])
       counts rest = record {
         owner = journal.journal.owner;
-        groups_are = are_groups-push (group_of o) born groups records journal.journal.groups_are can;
+        groups_are = are_groups-push (shape_of o) born groups records journal.journal.groups_are can;
         rest = 0 ∷ rest;
         is = open_is rest;
         ends = record { gate = 0; rest = rest; is = refl; closed = λ e. absurd (omega (arith, e)) };
@@ -124,15 +138,11 @@ module _ (o : Owner) (groups : List (List Record)) (file : List ℕ) (gate : ℕ
         | inr closed ↦ inl (subst (λ (l : List ℕ). IsJournal l o groups) (sym is) (shut g (group_bytes body ++ rest) closed))
       ]
 
-      -- the group stands whole in each outcome of the second write
       pub gate_torn : (g : ℕ) (rest image : List ℕ) → Torn gate (1 ∷ []) (gated o groups g body rest) image → IsJournal image o groups ⊎ IsJournal image o (groups ++ records ∷ [])
-      gate_torn g rest image torn =
-          let long = length_gated g rest in
-          let all : min gate (length (gated o groups g body rest)) ≡ gate = omega (arith, long) in
-          let kept : take gate image ≡ front_of o groups = subst (λ n. take n image ≡ take n (gated o groups g body rest)) all torn.before ∙ front_kept g rest in
-          let x = get_or image gate 0 in
-          let back : drop gate image ≡ x ∷ (group_bytes body ++ rest) = drop_more image gate 0 (omega (arith, long, torn.no_shorter)) ∙ ap (λ (l : List ℕ). x ∷ l) (torn.after ∙ back_kept g rest) in
-          either image x rest (sym (take-append-drop gate image) ∙ (λ i. kept i ++ back i))
+      gate_torn g rest image torn = either image (get_or image gate 0) rest (torn_gated g rest image torn)
+
+      pub gate_counts : (g : ℕ) (rest image : List ℕ) → Torn gate (1 ∷ []) (gated o groups g body rest) image → get_or image gate 0 ≡ 1 → IsJournal image o (groups ++ records ∷ [])
+      gate_counts g rest image torn one = subst (λ (l : List ℕ). IsJournal l o (groups ++ records ∷ [])) (sym (torn_gated g rest image torn ∙ ap (λ (n : ℕ). gated o groups n body rest) one)) (counts rest)
 
 -- ---- where the disk tells what a read gives
 
@@ -169,3 +179,37 @@ gate_leaves (Some file) mid may_leave gate body image mid_is only t = λ o group
     let all = subst (λ (m : Option (List ℕ)). OnlySeen m may_leave) mid_is only in
     let before_is : t.0 ≡ gated o groups journal.journal.ends.gate body (drop (gate + 1 + length (group_bytes body)) file) = all t.0 t.1 ∙ staged o groups file gate journal body in
     gate_torn o groups file gate journal body records body_is can journal.journal.ends.gate (drop (gate + 1 + length (group_bytes body)) file) image (subst (λ (f : List ℕ). Torn gate (1 ∷ []) f image) before_is t.2)
+
+-- ---- where a call failed
+
+pub stage_stops : (seen : Option (List ℕ)) (may_leave : List ℕ → Type 0) (gate : ℕ) (body image : List ℕ) (made : ℕ) → made < 2 → OnlySeen seen may_leave → TornFrom may_leave (gate + 1) (group_bytes body) image
+    → StopLeaves seen gate body made image
+stage_stops None may_leave gate body image made few only t = tt
+stage_stops (Some file) may_leave gate body image made few only t = (
+  λ _ o groups journal. record {
+    journal = stage_torn o groups file gate journal (group_bytes body) image (subst (λ (f : List ℕ). Torn (gate + 1) (group_bytes body) f image) (only t.0 t.1) t.2);
+    gate_is = journal.gate_is;
+  },
+  λ many. absurd (omega (arith, few, many)),
+)
+
+pub gate_stops : (seen mid : Option (List ℕ)) (may_leave : List ℕ → Type 0) (gate : ℕ) (body image : List ℕ) (made : ℕ) → 2 ≤ made → mid ≡ option_map (λ f. written f (gate + 1) (group_bytes body)) seen
+    → OnlySeen mid may_leave → TornFrom may_leave gate (1 ∷ []) image → StopLeaves seen gate body made image
+gate_stops None mid may_leave gate body image made many mid_is only t = tt
+gate_stops (Some file) mid may_leave gate body image made many mid_is only t =
+    let all = subst (λ (m : Option (List ℕ)). OnlySeen m may_leave) mid_is only in
+    let rest = drop (gate + 1 + length (group_bytes body)) file in
+    let torn_of : (o : Owner) (groups : List (List Record)) (journal : IsJournalTo file gate o groups) → Torn gate (1 ∷ []) (gated o groups journal.journal.ends.gate body rest) image
+    = λ o groups journal. subst (λ (f : List ℕ). Torn gate (1 ∷ []) f image) (all t.0 t.1 ∙ staged o groups file gate journal body) t.2 in (
+      λ few. absurd (omega (arith, few, many)),
+      λ _. record {
+        counts = λ one o groups records journal body_is can. record {
+          journal = gate_counts o groups file gate journal body records body_is can journal.journal.ends.gate rest image (torn_of o groups journal) one;
+          gate_is = next_gate o groups file gate journal body records body_is can;
+        };
+        lacks = λ other o groups journal. record {
+          journal = gate_lacks o groups file gate journal body journal.journal.ends.gate rest image (torn_of o groups journal) other;
+          gate_is = journal.gate_is;
+        };
+      },
+    )

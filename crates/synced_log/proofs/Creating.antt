@@ -1,10 +1,13 @@
 -- What each step of creation leaves, whole or cut short.
-use Rattle.std.proofs.Common.{◌≡◌, ◌≢◌, ◌⊎◌, inl, inr, ℕ, ◌+◌, ◌-◌, ◌≤◌, min, List, [], ◌∷◌, ◌++◌, length, get_or, take, drop, replicate, refl, sym, ap, ◌∙◌, subst, arith, append_assoc}
+use Rattle.std.proofs.Common.{◌≡◌, ◌≢◌, ◌⊎◌, inl, inr, ℕ, ◌+◌, ◌-◌, ◌<◌, ◌≤◌, min, List, [], ◌∷◌, ◌++◌, length, get_or, take, drop, replicate, refl, sym, ap, ◌∙◌, subst, arith, append_assoc}
+use Rattle.std.specs.Prelude.{true, ◌==◌, ◌&&◌, ◌||◌, nat_lt}
 use Rattle.std.proofs.lemmas.Bool.{cases_eq, cases_lt}
+use Rattle.std.proofs.lemmas.Bool.Decides.{nat_tests}
 use Rattle.std.proofs.lemmas.List.{append-nil, drop_all, get_or-take}
 use Rattle.craft_edge.specs.Disk.{written, Torn}
 use Rattle.craft_edge.proofs.DiskLaws.{length-written_some}
 use Rattle.synced_log.specs.declared.owner.Owner.{Owner}
+use Rattle.synced_log.specs.Calls.{needs_zero}
 use Rattle.synced_log.specs.Creation.{IsBlank}
 use Rattle.synced_log.specs.Journal.{IsOwner, header, IsUnborn, IsJournal}
 
@@ -14,6 +17,14 @@ written_inside old at b bs le =
     let rest = drop (at + length (b ∷ bs)) old in
     let no_gap : at - length old ≡ 0 = omega (arith, le) in
     ap (λ n. take at old ++ replicate n 0 ++ (b ∷ bs) ++ rest) no_gap ∙ ap (λ (l : List ℕ). l ++ (b ∷ bs) ++ rest) (append-nil (take at old)) ∙ append_assoc (take at old) (b ∷ bs) rest
+
+-- ---- the first byte as zero
+
+pub blank_torn : (file image : List ℕ) → needs_zero file ≡ true → Torn 0 (0 ∷ []) file image → IsUnborn image
+blank_torn file image needs torn = inl (omega (arith, torn.no_longer, length-written_some file 0 0 [], short_one (length file) (get_or file 0 0) needs))
+  where
+    short_one : (n first : ℕ) → ((n == 0) || (nat_lt n 33 && (first == 67))) ≡ true → n < 33
+    short_one n first needs = grind (arith, nat_tests, needs)
 
 -- ---- the rest of the header and a closed gate
 

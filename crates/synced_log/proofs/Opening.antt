@@ -5,14 +5,14 @@ use Rattle.std.proofs.lemmas.Bool.{eqb-true}
 use Rattle.craft_edge.specs.Disk.{max_len}
 use Rattle.entry_frames.specs.Records.{Record}
 use Rattle.synced_log.specs.declared.owner.Owner.{Owner}
-use Rattle.synced_log.specs.declared.place.Place.{Place}
+use Rattle.synced_log.specs.declared.span.GroupSpan.{GroupSpan}
 use Rattle.synced_log.specs.declared.walk.Ended.TheVariants.{Closed, Faulty}
-use Rattle.synced_log.specs.Journal.{IsOwner, group_of, header, open_groups, Placed, front_of, IsUnborn, HasHeader, BadAt, Kept, Reads, closed_gate}
+use Rattle.synced_log.specs.Journal.{IsOwner, shape_of, header, open_groups, Placed, front_of, IsUnborn, HasHeader, BadAt, Kept, Reads, closed_gate}
 use Rattle.synced_log.specs.Standing.{Opens}
 use Rattle.synced_log.specs.Walks.{all_placed, WalksWhole}
 use Rattle.synced_log.proofs.Creating as creating
 
-module _ (o : Owner) (file : List ℕ) (places : List Place) (has : HasHeader file o) where
+module _ (o : Owner) (file : List ℕ) (spans : List GroupSpan) (has : HasHeader file o) where
   -- the front of a file, and what lies from an offset on
   split : (groups : List (List Record)) (at : ℕ) → drop 32 file ≡ open_groups o.k groups ++ drop at file → file ≡ front_of o groups ++ drop at file
   split groups at is =
@@ -21,7 +21,7 @@ module _ (o : Owner) (file : List ℕ) (places : List Place) (has : HasHeader fi
   gate_at : (groups : List (List Record)) (at : ℕ) → at ≡ 32 + length (open_groups o.k groups) → at ≡ closed_gate o groups
   gate_at groups at is = omega (arith, is, length-append (header o) (open_groups o.k groups))
 
-  pub reads : (gate : ℕ) (kept : Kept) → WalksWhole (group_of o) file places (Closed gate) → kept ≡ record { group = group_of o; placed = all_placed file places } → Reads file o gate kept
+  pub reads : (gate : ℕ) (kept : Kept) → WalksWhole (shape_of o) file spans (Closed gate) → kept ≡ record { shape = shape_of o; placed = all_placed file spans } → Reads file o gate kept
   reads gate kept w kept_is = record {
     groups = w.walk.groups;
     journal = record {
@@ -34,10 +34,10 @@ module _ (o : Owner) (file : List ℕ) (places : List Place) (has : HasHeader fi
       };
       gate_is = gate_at w.walk.groups gate w.walk.at_is;
     };
-    kept_is = kept_is ∙ ap (λ (p : List Placed). record { group = group_of o; placed = p }) w.walk.places_are;
+    kept_is = kept_is ∙ ap (λ (p : List Placed). record { shape = shape_of o; placed = p }) w.walk.spans_are;
   }
 
-  pub faulty : (gate : ℕ) → WalksWhole (group_of o) file places (Faulty gate) → BadAt file o gate
+  pub faulty : (gate : ℕ) → WalksWhole (shape_of o) file spans (Faulty gate) → BadAt file o gate
   faulty gate w = inr (
     w.walk.groups,
     record { groups_are = w.walk.groups_are; rest = drop gate file; is = split w.walk.groups gate w.walk.is; fault = w.ends },
@@ -55,7 +55,7 @@ short bytes (inl few) = omega (arith, few)
 short bytes (inr whole) = omega (arith, whole.0)
 
 pub created_opens : (seen mid new : Option (List ℕ)) (file : List ℕ) (o : Owner) (kept : Kept) → IsOwner o → mid ≡ seen → IfSome seen (λ f. file ≡ f) → IsUnborn file
-    → (mid ≡ Some file → new ≡ Some (header o ++ 0 ∷ [])) → kept ≡ record { group = group_of o; placed = [] } → Opens seen new o 32 kept
+    → (mid ≡ Some file → new ≡ Some (header o ++ 0 ∷ [])) → kept ≡ record { shape = shape_of o; placed = [] } → Opens seen new o 32 kept
 created_opens None mid new file o kept owner same is unborn makes kept_is = tt
 created_opens (Some f) mid new file o kept owner same is unborn makes kept_is =
     let there : mid ≡ Some file = same ∙ ap some_of (sym is) in
@@ -64,7 +64,7 @@ created_opens (Some f) mid new file o kept owner same is unborn makes kept_is =
       journal = record { journal = creating.born o owner; gate_is = refl };
       kept_is = kept_is;
       room = short f (subst IsUnborn is unborn);
-      from = inl (subst IsUnborn is unborn, refl);
+      from = inl (subst IsUnborn is unborn, refl, refl);
     })
 
 -- ---- owners

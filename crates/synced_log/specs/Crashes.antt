@@ -1,7 +1,7 @@
--- What a crash leaves during a call of several device calls, and which calls those were.
-use Rattle.std.specs.Prelude.{◌≡◌, ◌⊎◌, ℕ, ◌≤◌, Bool, true, false, IsTrue, List, [], ◌∷◌, ◌++◌, Option, Result, MatchResult}
+-- What a crash leaves during a call of several device calls.
+use Rattle.std.specs.Prelude.{◌≡◌, ◌⊎◌, ℕ, ◌≤◌, Bool, true, false, IsTrue, List, Option, is_some}
 use Rattle.craft_edge.specs.Disk.{Torn}
-use Rattle.craft_edge.specs.DiskCalls.{DiskHistory, DiskWork, Sync, after_call_of}
+use Rattle.craft_edge.specs.DiskCalls.{DiskHistory, Sync, after_call_of}
 
 -- A crash at any moment since `old`, and a crash now, leaves an image that has P, where the disk tells it.
 pub record LeavesOnly {D : Type 0} (tells_crash tells_past : D → Bool) (moment : D → ℕ) (may_leave : D → List ℕ → Type 0) (left_since : D → ℕ → List ℕ → Type 0)
@@ -18,24 +18,6 @@ pub record LeavesOnly {D : Type 0} (tells_crash tells_past : D → Bool) (moment
 abbrev pub TornFrom : (List ℕ → Type 0) → ℕ → List ℕ → List ℕ → Type 0
 TornFrom old at bytes image = (before : List ℕ) × old before × Torn at bytes before image
 
--- ---- calls
-
-abbrev pub after_calls : Option DiskHistory → List DiskWork → Option DiskHistory
-after_calls history [] = history
-after_calls history (work ∷ works) = after_calls (after_call_of history work false) works
-
--- the calls up to and with the first that fails
-pub record FailsIn (old new : Option DiskHistory) (works : List DiskWork) : Type 0 where
-  pub made : List DiskWork
-  pub failed : DiskWork
-  pub left : List DiskWork
-  pub are : works ≡ made ++ failed ∷ left
-  pub is : new ≡ after_call_of (after_calls old made) failed true
-
--- just these calls were made, in order, up to and with the first that failed
-abbrev pub Makes : {T E : Type 0} → Option DiskHistory → Option DiskHistory → List DiskWork → Result T E → Type 0
-Makes old new works result = MatchResult result (λ _. new ≡ after_calls old works) (λ _. FailsIn old new works)
-
 -- The first call is a sync. Until it ends a crash leaves what it might have left before, and then what has P.
 pub record BeginsWithSync {D : Type 0} (tells_crash tells_past : D → Bool) (moment : D → ℕ) (may_leave : D → List ℕ → Type 0) (left_since : D → ℕ → List ℕ → Type 0) (history : D → Option DiskHistory)
     (old new : D) (P : List ℕ → Type 0) : Type 0 where
@@ -45,3 +27,10 @@ pub record BeginsWithSync {D : Type 0} (tells_crash tells_past : D → Bool) (mo
   pub before : LeavesOnly tells_crash tells_past moment may_leave left_since old synced (may_leave old)
   pub behind : failed ≡ false → LeavesOnly tells_crash tells_past moment may_leave left_since synced new P
   pub ended : failed ≡ true → new ≡ synced
+
+-- the disk tells what it told
+pub record TellsSame {D : Type 0} (seen : D → Option (List ℕ)) (tells_crash tells_past : D → Bool) (history : D → Option DiskHistory) (old new : D) : Type 0 where
+  pub same_seen : is_some (seen new) ≡ is_some (seen old)
+  pub same_crash : tells_crash new ≡ tells_crash old
+  pub same_past : tells_past new ≡ tells_past old
+  pub same_history : is_some (history new) ≡ is_some (history old)

@@ -1,12 +1,8 @@
 -- What a crash leaves while a file is created.
-use Rattle.std.specs.Prelude.{◌≡◌, ◌≢◌, ◌⊎◌, ℕ, ◌<◌, ◌≤◌, Bool, List, [], length, get_or, Option, Some}
+use Rattle.std.specs.Prelude.{◌≡◌, ◌≢◌, ◌⊎◌, ℕ, ◌≤◌, Bool, List, [], length, get_or, Option, Some}
 use Rattle.craft_edge.specs.Disk.{WhereTold, Only}
 use Rattle.synced_log.specs.declared.owner.Owner.{Owner}
 use Rattle.synced_log.specs.Journal.{IsUnborn, IsJournal}
-
--- the first byte has to be written as another than a header's: there is none, or it is a header's in a file that is too short
-abbrev pub NeedsZero : List ℕ → Type 0
-NeedsZero file = (length file ≡ 0) ⊎ ((length file < 33) × (get_or file 0 0 ≡ 67))
 
 -- an unborn file with a first byte that isn't a header's
 pub record IsBlank (file : List ℕ) : Type 0 where

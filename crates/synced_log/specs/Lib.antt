@@ -1,9 +1,13 @@
 pub mod Journal
 pub mod Faults
+pub mod Calls
 pub mod Crashes
-pub mod Sketches
+pub mod Outlines
 pub mod Walks
 pub mod Reading
 pub mod Creation
 pub mod Standing
+pub mod Stops
+pub mod States
+pub mod Stopped
 pub mod Laws

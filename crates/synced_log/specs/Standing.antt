@@ -5,7 +5,7 @@ use Rattle.craft_edge.specs.DiskCalls.{DiskWork, WriteAt, Sync}
 use Rattle.entry_frames.specs.Records.{group_bytes}
 use Rattle.synced_log.specs.declared.fault.OpenFault.{OpenFault}
 use Rattle.synced_log.specs.declared.owner.Owner.{Owner}
-use Rattle.synced_log.specs.Journal.{Kept, IsFaultOf, IsOpened, StaysAs, CanTake, HasNext, HasOrLacksNext}
+use Rattle.synced_log.specs.Journal.{Kept, IsFaultOf, IsOpened, StaysAs, CanAppend, HasNext, HasOrLacksNext}
 
 -- what contracts see of it: its disk, and the offset of the closed gate
 pub record Standing (D : Type 0) : Type 0 where
@@ -25,9 +25,9 @@ append_calls gate body = WriteAt (gate + 1) (group_bytes body) ∷ Sync ∷ Writ
 -- ---- where the disk tells what a read gives
 
 -- the file can take a group with that body
-abbrev pub TakesBody : Option (List ℕ) → ℕ → List ℕ → Type 0
-TakesBody None gate body = ⊤
-TakesBody (Some file) gate body = CanTake file gate body
+abbrev pub CanAppendTo : Option (List ℕ) → ℕ → List ℕ → Type 0
+CanAppendTo None gate body = ⊤
+CanAppendTo (Some file) gate body = CanAppend file gate body
 
 -- it was added
 abbrev pub Added : Option (List ℕ) → Option (List ℕ) → ℕ → List ℕ → ℕ → Type 0

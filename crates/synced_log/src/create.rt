@@ -1,10 +1,11 @@
 //! The creation of a file that was never born.
-ghost use Rattle.std.specs.Prelude.{◌≡◌, ◌≤◌, ◌⊎◌, ◌++◌, ◌∷◌, [], Some, length, List, ℕ, OnOk, OnErr};
+ghost use Rattle.std.specs.Prelude.{◌≡◌, ◌≤◌, ◌⊎◌, ◌++◌, ◌∷◌, [], Some, length, is_some, List, ℕ, OnOk, OnErr};
 ghost use Rattle.std.specs.Bool.{Decides};
 ghost use Rattle.craft_edge.specs.Causes.{Rose};
 ghost use Rattle.craft_edge.specs.Disk.{WhereTold, Only, OnlySeen};
+ghost use Rattle.synced_log.specs.Calls.{Makes, needs_zero, blank_calls, birth_calls, creation_calls};
 ghost use Rattle.synced_log.specs.Crashes.{LeavesOnly};
-ghost use Rattle.synced_log.specs.Creation.{CreationLeaves, IsBlank, HasBlank, NeedsZero};
+ghost use Rattle.synced_log.specs.Creation.{CreationLeaves, IsBlank, HasBlank};
 ghost use Rattle.synced_log.specs.Journal.{IsOwner, IsUnborn, header};
 
 use crate::header::born_file;
@@ -24,7 +25,7 @@ pub fn is_unborn(file: &[u8]) -> bool
 
 /// Whether the first byte has to be written as zero before anything else.
 fn needs_zero(file: &[u8]) -> bool
-    ensures { Decides result (NeedsZero file.now) }
+    ensures { result ≡ needs_zero file.now }
 {
     file.is_empty() || (file.len() < 33 && file[0] == FIRST)
 }
@@ -41,6 +42,8 @@ pub fn create<D: Disk>(disk: &mut D, file: &[u8], owner: Owner) -> Result<(), Fa
     ensures crash { LeavesOnly D.tells_crash D.tells_past D.moment D.may_leave D.left_since disk.old disk.new
         (CreationLeaves (λ f. f ≡ file.now) (D.seen disk.old) (D.may_leave disk.old) owner) }
 
+    ensures calls { Makes (D.history disk.old) (D.history disk.new) (creation_calls file.now owner) result }
+    ensures told { is_some (D.seen disk.new) ≡ is_some (D.seen disk.old) }
     ensures later { D.faults disk.old ≤ D.faults disk.new }
     ensures cause { OnErr result (Rose (D.faults disk.old) (D.faults disk.new)) }
 {
@@ -56,6 +59,8 @@ fn make_blank<D: Disk>(disk: &mut D, file: &[u8], owner: Owner) -> Result<(), Fa
         → HasBlank (D.tells_crash disk.old) (D.seen disk.new) (D.may_leave disk.new)) }
     ensures crash { LeavesOnly D.tells_crash D.tells_past D.moment D.may_leave D.left_since disk.old disk.new
         (CreationLeaves (λ f. f ≡ file.now) (D.seen disk.old) (D.may_leave disk.old) owner) }
+    ensures calls { Makes (D.history disk.old) (D.history disk.new) (blank_calls file.now) result }
+    ensures told { is_some (D.seen disk.new) ≡ is_some (D.seen disk.old) }
     ensures later { D.faults disk.old ≤ D.faults disk.new }
     ensures cause { OnErr result (Rose (D.faults disk.old) (D.faults disk.new)) }
 {
@@ -73,6 +78,8 @@ fn write_born<D: Disk>(disk: &mut D, owner: Owner) -> Result<(), Failed>
     ensures durable { OnOk result (WhereTold (D.tells_crash disk.old) (OnlySeen (D.seen disk.new) (D.may_leave disk.new))) }
     ensures crash { LeavesOnly D.tells_crash D.tells_past D.moment D.may_leave D.left_since disk.old disk.new
         (CreationLeaves IsBlank (D.seen disk.old) (D.may_leave disk.old) owner) }
+    ensures calls { Makes (D.history disk.old) (D.history disk.new) (birth_calls owner) result }
+    ensures told { is_some (D.seen disk.new) ≡ is_some (D.seen disk.old) }
     ensures later { D.faults disk.old ≤ D.faults disk.new }
     ensures cause { OnErr result (Rose (D.faults disk.old) (D.faults disk.new)) }
 {

@@ -1,7 +1,7 @@
 //! The groups of a file that was read.
 ghost use Rattle.std.specs.Prelude.{◌≡◌, ◌≤◌, ◌+◌, length, take, drop, slice_get, Some, MatchOption};
 
-use crate::place::{Place, TO_BODY};
+use crate::span::{GroupSpan, TO_BODY};
 use craft_base::Shape;
 use std::marker::Model;
 
@@ -11,7 +11,7 @@ use std::marker::Model;
 pub struct Groups {
     shape: Shape,
     file: Vec<u8>,
-    places: Vec<Place>,
+    spans: Vec<GroupSpan>,
 }
 
 impl Model for Groups {
@@ -20,25 +20,25 @@ impl Model for Groups {
 
     ghost Value = { Kept };
 
-    ghost view = { λ g. record { group = g.shape; placed = all_placed g.file.items g.places.items } };
+    ghost view = { λ g. record { shape = g.shape; placed = all_placed g.file.items g.spans.items } };
 
-    ghost invariant = { λ g. AreKept (record { group = g.shape; placed = all_placed g.file.items g.places.items }) × AllInside g.file.items g.places.items };
+    ghost invariant = { λ g. AreKept (record { shape = g.shape; placed = all_placed g.file.items g.spans.items }) × AllInside g.file.items g.spans.items };
 }
 
 impl Groups {
     ghost use Rattle.synced_log.specs.Journal.{AreKept, Kept};
     ghost use Rattle.synced_log.specs.Walks.{all_placed, AllInside};
 
-    /// The groups at these places of a file.
-    pub fn of(shape: &Shape, file: Vec<u8>, places: Vec<Place>) -> Groups
-        requires kept { AreKept (record { group = shape.now; placed = all_placed file.items places.items }) }
-        requires inside { AllInside file.items places.items }
-        ensures { result ≡ record { group = shape.now; placed = all_placed file.items places.items } }
+    /// The groups at these spans of a file.
+    pub(crate) fn of(shape: &Shape, file: Vec<u8>, spans: Vec<GroupSpan>) -> Groups
+        requires kept { AreKept (record { shape = shape.now; placed = all_placed file.items spans.items }) }
+        requires inside { AllInside file.items spans.items }
+        ensures { result ≡ record { shape = shape.now; placed = all_placed file.items spans.items } }
     {
         Groups {
             shape: *shape,
             file,
-            places,
+            spans,
         }
     }
 
@@ -47,26 +47,26 @@ impl Groups {
         ensures value { result ≡ length self.now.placed }
         ensures kept { AreKept self.now }
     {
-        self.places.len() as u64
+        self.spans.len() as u64
     }
 
     /// The offset of a group's gate, and its body, the first group being number 0; `None` exactly where there are no more.
     pub fn at(&self, n: u64) -> Option<(u64, &[u8])>
         ensures { MatchOption result (length self.now.placed ≤ n) (λ x. slice_get self.now.placed n ≡ Some (record { gate = x.0; body = x.1.now })) }
     {
-        if n >= self.places.len() as u64 {
+        if n >= self.spans.len() as u64 {
             return None;
         }
-        let place = self.places[n as usize];
-        Some((place.gate, body_at(&self.file, place)))
+        let span = self.spans[n as usize];
+        Some((span.gate, body_at(&self.file, span)))
     }
 }
 
-/// The body of the group at that place.
-fn body_at(file: &[u8], place: Place) -> &[u8]
-    requires { place.gate + 9 + place.len ≤ length file.now }
-    ensures { result.now ≡ take place.len (drop (place.gate + 9) file.now) }
+/// The body of the group at that span.
+fn body_at(file: &[u8], span: GroupSpan) -> &[u8]
+    requires { span.gate + 9 + span.len ≤ length file.now }
+    ensures { result.now ≡ take span.len (drop (span.gate + 9) file.now) }
 {
-    let start = place.gate as usize + TO_BODY;
-    &file[start..start + place.len]
+    let start = span.gate as usize + TO_BODY;
+    &file[start..start + span.len]
 }

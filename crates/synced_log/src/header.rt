@@ -1,8 +1,8 @@
 //! The header of a file.
 ghost use Rattle.std.specs.Prelude.{◌≡◌, ◌≤◌, ◌<◌, ◌++◌, ◌∷◌, [], length, MatchOption};
 ghost use Rattle.std.specs.Bool.{Decides};
-ghost use Rattle.craft_base.specs.Parameters.{members_of};
-ghost use Rattle.synced_log.specs.Journal.{IsOwner, header, group_of, owned, HasHeader, NoHeader};
+ghost use Rattle.craft_base.specs.Shape.{members_of};
+ghost use Rattle.synced_log.specs.Journal.{IsOwner, header, shape_of, owned, HasHeader, NoHeader};
 
 use crate::owner::Owner;
 use craft_base::{MemberId, Shape};
@@ -10,11 +10,11 @@ use craft_base::{MemberId, Shape};
 /// The length of a header.
 pub const HEADER: usize = 32;
 
-/// The owner that a member of a group is.
+/// The owner that a member of a cluster is.
 pub fn owner_of(shape: &Shape, me: MemberId) -> Owner
     requires { me < members_of shape.now }
     ensures value { result ≡ owned shape.now me }
-    ensures group { group_of result ≡ shape.now }
+    ensures shape { shape_of result ≡ shape.now }
     ensures owner { IsOwner result }
 {
     Owner {
@@ -24,7 +24,7 @@ pub fn owner_of(shape: &Shape, me: MemberId) -> Owner
     }
 }
 
-/// Whether it is a member of a group.
+/// Whether it is a member of a cluster.
 fn is_owner(owner: Owner) -> bool
     ensures { Decides result (IsOwner owner) }
 {

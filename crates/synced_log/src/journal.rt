@@ -3,10 +3,12 @@ ghost use Rattle.std.specs.Prelude.{◌≡◌, ◌≢◌, ◌<◌, ◌≤◌, �
 ghost use Rattle.craft_edge.specs.Causes.{Rose};
 ghost use Rattle.craft_edge.specs.Disk.{WhereTold, OnlySeen, max_len, SameImages, StandsStill};
 ghost use Rattle.craft_edge.specs.DiskCalls.{after_stop_of};
-ghost use Rattle.synced_log.specs.Crashes.{BeginsWithSync, LeavesOnly, after_calls, FailsIn, Makes};
+ghost use Rattle.synced_log.specs.Calls.{after_calls, AllMade, IsOpening, IsSyncedReading, MakesUpTo};
+ghost use Rattle.synced_log.specs.Crashes.{BeginsWithSync, LeavesOnly, TellsSame};
 ghost use Rattle.synced_log.specs.Journal.{owned};
-ghost use Rattle.synced_log.specs.Standing.{TakesBody, Added, AddedOrNot, append_calls, Opens, Stays, FaultsAs};
-ghost use Rattle.craft_base.specs.Parameters.{members_of};
+ghost use Rattle.synced_log.specs.Standing.{CanAppendTo, Added, AddedOrNot, append_calls, Opens, Stays, FaultsAs};
+ghost use Rattle.synced_log.specs.Stops.{StopsAppend};
+ghost use Rattle.craft_base.specs.Shape.{members_of};
 
 use crate::fault::OpenFault;
 use crate::groups::Groups;
@@ -48,7 +50,7 @@ impl<D: Disk> Journal<D> {
 
         // The file is as it was, unless it was never born, and these are its groups.
         ensures opened { IfOk result (λ x. Opens (D.seen disk) (D.seen x.0.disk) (owned shape.now me) x.0.gate x.1) }
-        ensures shape { IfOk result (λ x. x.1.group ≡ shape.now) }
+        ensures shape { IfOk result (λ x. x.1.shape ≡ shape.now) }
         ensures fault { IfErr result (λ x. FaultsAs (D.seen disk) (owned shape.now me) x.0) }
         ensures durable { IfOk result (λ x. WhereTold (D.tells_crash disk) (OnlySeen (D.seen x.0.disk) (D.may_leave x.0.disk))) }
 
@@ -59,7 +61,18 @@ impl<D: Disk> Journal<D> {
         ensures any_moment_err { IfErr result (λ x. BeginsWithSync D.tells_crash D.tells_past D.moment D.may_leave D.left_since D.history disk x.1
             (Stays (owned shape.now me) (D.seen disk))) }
 
+        // The device calls are a sync, then what reads the file, and where it was never born the steps of its creation, each a
+        // write and a sync; up to and with the first that fails.
+        ensures calls { IfOk result (λ x. AllMade (D.history disk) (D.history x.0.disk) (IsOpening (D.seen disk) (owned shape.now me))) }
+        ensures calls_err { IfErr result (λ x. MakesUpTo x.0 (D.history disk) (D.history x.1) (IsOpening (D.seen disk) (owned shape.now me)) IsSyncedReading) }
+
+        // The disk that is handed back tells what it told, and where it didn't fail a read gives what it gave.
+        ensures told { IfOk result (λ x. TellsSame D.seen D.tells_crash D.tells_past D.history disk x.0.disk) }
+        ensures told_err { IfErr result (λ x. TellsSame D.seen D.tells_crash D.tells_past D.history disk x.1) }
+        ensures untouched { IfErr result (λ x. (x.0 ≡ OpenFault.DiskFault → ⊥) → D.seen x.1 ≡ D.seen disk) }
+
         ensures later { IfOk result (λ x. D.faults disk ≤ D.faults x.0.disk) }
+        ensures later_err { IfErr result (λ x. D.faults disk ≤ D.faults x.1) }
         ensures cause { IfErr result (λ x. x.0 ≡ OpenFault.DiskFault → Rose (D.faults disk) (D.faults x.1)) }
     {
         let mut disk = disk;
@@ -74,7 +87,7 @@ impl<D: Disk> Journal<D> {
     pub fn append(self, group: &Group) -> Result<Journal<D>, D>
         requires some { group.now ≢ [] }
         // Its records can be applied, in order, to the state to which the file opens.
-        requires can { TakesBody (D.seen self.disk) self.gate group.now }
+        requires can { CanAppendTo (D.seen self.disk) self.gate group.now }
 
         ensures added { IfOk result (λ journal. Added (D.seen self.disk) (D.seen journal.disk) self.gate group.now journal.gate) }
 
@@ -89,9 +102,17 @@ impl<D: Disk> Journal<D> {
 
         // Just four device calls are made, up to and with the first that fails.
         ensures calls { IfOk result (λ journal. D.history journal.disk ≡ after_calls (D.history self.disk) (append_calls self.gate group.now)) }
-        ensures calls_err { IfErr result (λ disk. FailsIn (D.history self.disk) (D.history disk) (append_calls self.gate group.now)) }
+
+        // Where the first or second failed, each crash from then on leaves the groups from before; where the third or fourth
+        // did, it leaves them with the new one exactly where the byte at its gate is 1.
+        ensures calls_err { IfErr result (λ disk. StopsAppend D.seen D.tells_crash D.may_leave D.history self.disk disk self.gate group.now) }
+
+        // The disk that is handed back tells what it told.
+        ensures told { IfOk result (λ journal. TellsSame D.seen D.tells_crash D.tells_past D.history self.disk journal.disk) }
+        ensures told_err { IfErr result (λ disk. TellsSame D.seen D.tells_crash D.tells_past D.history self.disk disk) }
 
         ensures later { IfOk result (λ journal. D.faults self.disk ≤ D.faults journal.disk) }
+        ensures later_err { IfErr result (λ disk. D.faults self.disk ≤ D.faults disk) }
         ensures cause { IfErr result (λ disk. Rose (D.faults self.disk) (D.faults disk)) }
     {
         let Journal { disk, gate } = self;
@@ -137,7 +158,11 @@ fn add_group<D: Disk>(disk: &mut D, gate: u64, group: &Group) -> Result<u64, Fai
     ensures durable { OnOk result (WhereTold (D.tells_crash disk.old) (OnlySeen (D.seen disk.new) (D.may_leave disk.new))) }
     ensures crash { WhereTold (D.tells_crash disk.old) (OnlySeen (D.seen disk.old) (D.may_leave disk.old))
         → LeavesOnly D.tells_crash D.tells_past D.moment D.may_leave D.left_since disk.old disk.new (AddedOrNot (D.seen disk.old) gate group.now) }
-    ensures calls { Makes (D.history disk.old) (D.history disk.new) (append_calls gate group.now) result }
+    ensures calls { OnOk result (D.history disk.new ≡ after_calls (D.history disk.old) (append_calls gate group.now)) }
+    ensures calls_err { WhereTold (D.tells_crash disk.old) (OnlySeen (D.seen disk.old) (D.may_leave disk.old))
+        → OnErr result (StopsAppend D.seen D.tells_crash D.may_leave D.history disk.old disk.new gate group.now) }
+    ensures told { WhereTold (D.tells_crash disk.old) (OnlySeen (D.seen disk.old) (D.may_leave disk.old))
+        → TellsSame D.seen D.tells_crash D.tells_past D.history disk.old disk.new }
     ensures later { D.faults disk.old ≤ D.faults disk.new }
     ensures cause { OnErr result (Rose (D.faults disk.old) (D.faults disk.new)) }
 {

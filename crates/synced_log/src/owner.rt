@@ -4,7 +4,7 @@ ghost use Rattle.synced_log.specs.Faults.{owner_text};
 
 use std::fmt;
 
-/// The member that a journal is of: the group's F and k, and the member's number.
+/// The member that a journal is of: the cluster's F and k, and the member's number.
 #[derive(Clone, Copy, Debug, PartialEq, Eq)]
 pub struct Owner {
     pub f: u8,

@@ -3,49 +3,40 @@ ghost use Rattle.std.specs.Prelude.{◌≡◌, ◌+◌, ◌^◌, ◌<◌, IfOk, 
 ghost use Rattle.entry_frames.specs.Formats.{reading, front_of};
 ghost use Rattle.entry_frames.specs.Steps.{ReadsTo};
 ghost use Rattle.entry_frames.specs.Durable.{Durable};
-ghost use Rattle.entry_frames.specs.Views.{IsNeed};
-ghost use Rattle.synced_log.specs.Sketches.{sketch_of};
-ghost use Rattle.synced_log.specs.Walks.{TakesOne, TakesAll, TakesBehind, body_fields};
+ghost use Rattle.entry_frames.specs.RecordViews.{record_of};
+ghost use Rattle.synced_log.specs.Outlines.{outline_of};
+ghost use Rattle.synced_log.specs.Walks.{AppliesOne, AppliesAll, AppliesBehind, body_fields};
 
-use crate::state::State;
+use crate::outline::Outline;
 use craft_base::{OutOfMemory, Shape};
-use entry_frames::{Fields, FrameFault, RecordView};
+use entry_frames::{Fields, FrameFault, RecordView, RecordWalk};
 
-/// How many fragments rebuild a value.
-fn need_of(shape: &Shape) -> u8
-    ensures value { result ≡ shape.now.need }
-    ensures range { IsNeed result }
+/// Applies a record, and answers whether it can be applied. The only error is want of memory.
+fn apply_record(
+    shape: &Shape,
+    outline: &mut Outline,
+    item: &RecordView<'_>,
+) -> Result<bool, OutOfMemory>
+    ensures { IfOk result (λ done. AppliesOne shape.now outline.old (record_of item.now) done outline.new) }
 {
-    let _faults = shape.faults();
-    shape.need()
-}
-
-/// Applies the record with which the bytes begin, and answers how many bytes it takes; `None` exactly where none stands there
-/// that can be applied. The only error is want of memory.
-fn take_record(shape: &Shape, state: &mut State, bytes: &[u8]) -> Result<Option<usize>, OutOfMemory>
-    ensures { IfOk result (λ taken. TakesOne shape.now state.old bytes.now taken state.new) }
-{
-    match RecordView::read(need_of(shape), bytes) {
-        Err(_) => Ok(None),
-        Ok((item, count)) => {
-            if !state.can_take(shape, &item) {
-                return Ok(None);
-            }
-            state.take(shape, &item)?;
-            Ok(Some(count))
-        }
+    if !outline.can_apply(shape, item) {
+        return Ok(false);
     }
+    outline.apply(shape, item)?;
+    Ok(true)
 }
 
 /// Applies all records of a body, and answers whether the bytes are such records. The only error is want of memory.
-fn take_body(shape: &Shape, state: &mut State, body: &[u8]) -> Result<bool, OutOfMemory>
-    ensures { IfOk result (λ done. (d : Durable) → state.old ≡ sketch_of d → TakesAll shape.now d body.now done state.new) }
+fn apply_body(shape: &Shape, outline: &mut Outline, body: &[u8]) -> Result<bool, OutOfMemory>
+    ensures { IfOk result (λ done. (d : Durable) → outline.old ≡ outline_of d → AppliesAll shape.now d body.now done outline.new) }
 {
-    let mut rest = body;
-    while !rest.is_empty() {
-        match take_record(shape, state, rest)? {
-            None => return Ok(false),
-            Some(count) => rest = &rest[count..],
+    let mut walk = RecordWalk::of(shape.need(), body);
+    while let Some(item) = walk.next() {
+        let Ok(item) = item else {
+            return Ok(false);
+        };
+        if !apply_record(shape, outline, &item)? {
+            return Ok(false);
         }
     }
     Ok(true)
@@ -63,12 +54,12 @@ fn body_behind(bytes: &[u8]) -> Result<&[u8], FrameFault>
 
 /// Applies the group behind an open gate, and answers the length of its body; `None` exactly where there is none whose
 /// records can be applied. The only error is want of memory.
-pub fn take_group(
+pub fn apply_group(
     shape: &Shape,
-    state: &mut State,
+    outline: &mut Outline,
     bytes: &[u8],
 ) -> Result<Option<usize>, OutOfMemory>
-    ensures { IfOk result (λ len. (d : Durable) → state.old ≡ sketch_of d → TakesBehind shape.now d bytes.now len state.new) }
+    ensures { IfOk result (λ len. (d : Durable) → outline.old ≡ outline_of d → AppliesBehind shape.now d bytes.now len outline.new) }
 {
     let body = match body_behind(bytes) {
         Err(_) => return Ok(None),
@@ -77,7 +68,7 @@ pub fn take_group(
     if body.is_empty() {
         return Ok(None);
     }
-    if !take_body(shape, state, body)? {
+    if !apply_body(shape, outline, body)? {
         return Ok(None);
     }
     Ok(Some(body.len()))

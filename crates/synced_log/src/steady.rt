@@ -3,7 +3,8 @@ ghost use Rattle.std.specs.Prelude.{◌≡◌, ◌≤◌, ◌+◌, [], ◌∷◌
 ghost use Rattle.craft_edge.specs.Causes.{Rose};
 ghost use Rattle.craft_edge.specs.Disk.{max_len, WhereTold, OnlySeen, written};
 ghost use Rattle.craft_edge.specs.DiskCalls.{WriteAt, Sync};
-ghost use Rattle.synced_log.specs.Crashes.{LeavesOnly, TornFrom, Makes};
+ghost use Rattle.synced_log.specs.Calls.{Makes};
+ghost use Rattle.synced_log.specs.Crashes.{LeavesOnly, TornFrom};
 
 use craft_edge::{Disk, Failed};
 

@@ -1,6 +1,6 @@
 //! What the contracts don't say: that calls succeed, on bytes worked out by hand, and what each stopped call leaves.
 ghost use Rattle.std.specs.Prelude.{◌≡◌, ◌≢◌, ◌<◌, ◌≤◌, [], IfOk, IfSome, OnOk};
-ghost use Rattle.craft_base.specs.Parameters.{members_of};
+ghost use Rattle.craft_base.specs.Shape.{members_of};
 
 use crate::{Groups, Journal, OpenFault, Owner};
 use craft_base::{MemberId, OutOfMemory, Shape};
@@ -89,7 +89,7 @@ fn contents(alloc: Global, disk: &mut Untold) -> Result<Vec<u8>, Fail> {
     Ok(buf)
 }
 
-/// Opens the journal of a member of a group of three.
+/// Opens the journal of a member of a cluster of three.
 fn open_as(alloc: Global, disk: Untold, me: u8) -> Result<(Journal<Untold>, Groups), OpenFault> {
     let Ok(shape) = Shape::new(1, 1) else {
         return Err(OpenFault::OutOfMemory);
@@ -108,11 +108,11 @@ fn term_group(alloc: Global, term: u64) -> Result<Group, OutOfMemory> {
 }
 
 /// Adds a group that isn't empty.
-fn append(journal: Journal<Untold>, group: &Group) -> Result<Journal<Untold>, Untold> {
-    if group.is_empty() {
+fn append(journal: Journal<Untold>, shape: &Group) -> Result<Journal<Untold>, Untold> {
+    if shape.is_empty() {
         return Err(journal.give_back());
     }
-    journal.append(group)
+    journal.append(shape)
 }
 
 #[test]
@@ -210,14 +210,14 @@ fn created(alloc: Global, disk: Untold) -> Option<Untold> {
 #[test]
 fn a_group_counts_whole_or_not_at_all(rt: HostRuntime) -> Result<(), Fail> {
     let alloc = rt.alloc();
-    let group = term_group(alloc, 2)?;
+    let shape = term_group(alloc, 2)?;
     for call in 1..=5_u8 {
         for keep in [true, false] {
             let Ok((mut journal, _)) = open_as(alloc, disk_with(alloc, &VOTED), 1) else {
                 return Err("not opened".into());
             };
             journal.stop(call, keep);
-            let (done, disk) = match append(journal, &group) {
+            let (done, disk) = match append(journal, &shape) {
                 Ok(journal) => (true, journal.give_back()),
                 Err(disk) => (false, disk),
             };
@@ -243,8 +243,8 @@ fn a_thousand_groups_are_read_again(rt: HostRuntime) -> Result<(), Fail> {
         return Err("not created".into());
     };
     for term in 1..=1_000_u64 {
-        let group = term_group(alloc, term)?;
-        journal = match append(journal, &group) {
+        let shape = term_group(alloc, term)?;
+        journal = match append(journal, &shape) {
             Ok(journal) => journal,
             Err(_) => return Err("not added".into()),
         };

@@ -3,9 +3,9 @@ ghost use Rattle.std.specs.Prelude.{◌≤◌, length, IfOk};
 ghost use Rattle.synced_log.specs.Walks.{WalksWhole};
 
 use crate::header::HEADER;
-use crate::place::{Place, TO_BODY};
-use crate::records::take_group;
-use crate::state::State;
+use crate::outline::Outline;
+use crate::records::apply_group;
+use crate::span::{GroupSpan, TO_BODY};
 use craft_base::{OutOfMemory, Shape};
 use std::alloc::Global;
 
@@ -21,27 +21,31 @@ pub enum Ended {
     Faulty(u64),
 }
 
-/// The places of a file's groups behind its header, and how they end. Each record is tested before it is applied. The only
+/// The spans of a file's groups behind its header, and how they end. Each record is tested before it is applied. The only
 /// error is want of memory.
-pub fn walk(alloc: Global, shape: &Shape, file: &[u8]) -> Result<(Vec<Place>, Ended), OutOfMemory>
+pub fn walk(
+    alloc: Global,
+    shape: &Shape,
+    file: &[u8],
+) -> Result<(Vec<GroupSpan>, Ended), OutOfMemory>
     requires { 32 ≤ length file.now }
     ensures { IfOk result (λ x. WalksWhole shape.now file.now x.0.items x.1) }
 {
-    let mut state = State::new(alloc);
-    let mut places = Vec::new(alloc);
+    let mut outline = Outline::new(alloc);
+    let mut spans = Vec::new(alloc);
     let mut at = HEADER;
     while at < file.len() {
         if file[at] != OPEN {
-            return Ok((places, Ended::Closed(at as u64)));
+            return Ok((spans, Ended::Closed(at as u64)));
         }
-        let Some(len) = take_group(shape, &mut state, &file[at + 1..])? else {
-            return Ok((places, Ended::Faulty(at as u64)));
+        let Some(len) = apply_group(shape, &mut outline, &file[at + 1..])? else {
+            return Ok((spans, Ended::Faulty(at as u64)));
         };
-        places.push(Place {
+        spans.push(GroupSpan {
             gate: at as u64,
             len,
         })?;
         at += TO_BODY + len;
     }
-    Ok((places, Ended::Faulty(at as u64)))
+    Ok((spans, Ended::Faulty(at as u64)))
 }

@@ -4,11 +4,13 @@ use Rattle.std.specs.Prelude.{◌==◌, nat_le, if◌then◌else◌}
 use Rattle.std.specs.List.{list_any}
 use Rattle.std.proofs.lemmas.Bool.Decides.{nat_tests}
 use Rattle.std.proofs.lemmas.List.Folds.{list_any_none}
-use Rattle.craft_base.specs.Parameters.{Parameters}
-use Rattle.world_model.specs.Schedule.{Line, lines_of, onto_first, event_of, event_at, most_lines, longest_line}
-use Rattle.world_model.specs.Spelling.{IsNumber, SpellsEvent, IsGoodLine}
-use Rattle.world_model.specs.World.{Event, TickAt, Take}
-use Rattle.world_model.proofs.EventLines.{number_without, SpellsEvent-read, read-SpellsEvent}
+use Rattle.craft_base.specs.Shape.{Shape}
+use Rattle.world_model.specs.Schedule.{TextLine, lines_of, onto_first, line_in, line_at, most_lines, longest_line}
+use Rattle.world_model.specs.Spelling.{IsNumber, SpellsLine, IsGoodLine}
+use Rattle.world_model.specs.declared.line.Inner.TheVariants.{Tick, Take}
+use Rattle.world_model.specs.declared.line.Line.{Line}
+use Rattle.world_model.specs.declared.line.Line.TheVariants.{Do}
+use Rattle.world_model.proofs.InnerLines.{number_without, SpellsLine-read, read-SpellsLine}
 use Rattle.world_model.proofs.Inputs.{lines_of-line, good_line}
 
 abbrev is_feed : ℕ → Bool
@@ -28,31 +30,31 @@ number_on_line : (word : List ℕ) (n : ℕ) → IsNumber word n → list_any is
 number_on_line word n h = list_any_none is_feed word (number_without 10 word n (omega arith) h)
 
 -- a spelling has no line feed
-SpellsEvent-no_feed : (line : List ℕ) (event : Event) → SpellsEvent line event → list_any is_feed line ≡ false
-SpellsEvent-no_feed line (TickAt member word) (i, w, is_i, is_w, is) =
+SpellsLine-no_feed : (line : List ℕ) (event : Line) → SpellsLine line event → list_any is_feed line ≡ false
+SpellsLine-no_feed line (Do (Tick member word)) (i, w, is_i, is_w, is) =
     ap (list_any is_feed) is ∙ none_of_both i (32 ∷ w) (number_on_line i member is_i) (number_on_line w word is_w)
-SpellsEvent-no_feed line (Take frame) (m, is_m, is) = ap (list_any is_feed) is ∙ number_on_line m frame is_m
+SpellsLine-no_feed line (Do (Take frame)) (m, is_m, is) = ap (list_any is_feed) is ∙ number_on_line m frame is_m
 
 -- the bytes of a first line that has its line feed, and what comes after them
-abbrev EndsAt : List ℕ → Line → List Line → Type 0
+abbrev EndsAt : List ℕ → TextLine → List TextLine → Type 0
 EndsAt bytes line lines = (rest : List ℕ) × (bytes ≡ line.text ++ 10 ∷ rest) × (lines_of rest ≡ lines)
 
 is_ten : (byte : ℕ) → (byte == 10) ≡ true → byte ≡ 10
 is_ten byte h = grind (arith, nat_tests)
 
-at_feed : (byte : ℕ) (bytes : List ℕ) (line : Line) (lines : List Line) → (byte == 10) ≡ true
+at_feed : (byte : ℕ) (bytes : List ℕ) (line : TextLine) (lines : List TextLine) → (byte == 10) ≡ true
     → record { text = []; ended = true } ∷ lines_of bytes ≡ line ∷ lines → EndsAt (byte ∷ bytes) line lines
 at_feed byte bytes line lines feed h =
     let first : record { text = []; ended = true } ≡ line = cc in
     let text : [] ≡ line.text = ap (λ l. l.text) first in
     (bytes, ap (λ b. b ∷ bytes) (is_ten byte feed) ∙ ap (λ t. t ++ 10 ∷ bytes) text, cc)
 
-in_line : (byte : ℕ) (bytes : List ℕ) (line : Line) (lines firsts : List Line) → lines_of bytes ≡ firsts
+in_line : (byte : ℕ) (bytes : List ℕ) (line : TextLine) (lines firsts : List TextLine) → lines_of bytes ≡ firsts
     → onto_first byte firsts ≡ line ∷ lines → line.ended ≡ true
-    → ((first : Line) (others : List Line) → lines_of bytes ≡ first ∷ others → first.ended ≡ true → EndsAt bytes first others)
+    → ((first : TextLine) (others : List TextLine) → lines_of bytes ≡ first ∷ others → first.ended ≡ true → EndsAt bytes first others)
     → EndsAt (byte ∷ bytes) line lines
 in_line byte bytes line lines [] are h ended cut = absurd (open_line line lines h ended) where
-  open_line : (line : Line) (lines : List Line) → record { text = byte ∷ []; ended = false } ∷ [] ≡ line ∷ lines → line.ended ≡ true → ⊥
+  open_line : (line : TextLine) (lines : List TextLine) → record { text = byte ∷ []; ended = false } ∷ [] ≡ line ∷ lines → line.ended ≡ true → ⊥
   open_line line lines h ended =
       let first : record { text = byte ∷ []; ended = false } ≡ line = cc in
       let open_end : false ≡ line.ended = ap (λ l. l.ended) first in
@@ -64,11 +66,11 @@ in_line byte bytes line lines (first ∷ others) are h ended cut =
     let (rest, is, after) = cut first others are (ends ∙ ended) in
     (rest, ap (λ bs. byte ∷ bs) is ∙ ap (λ t. t ++ 10 ∷ rest) text, after ∙ cc)
 
-pub lines_of-cut : (bytes : List ℕ) (line : Line) (lines : List Line) → lines_of bytes ≡ line ∷ lines → line.ended ≡ true → EndsAt bytes line lines
+pub lines_of-cut : (bytes : List ℕ) (line : TextLine) (lines : List TextLine) → lines_of bytes ≡ line ∷ lines → line.ended ≡ true → EndsAt bytes line lines
 lines_of-cut [] line lines h ended = cc
 lines_of-cut (byte ∷ bytes) line lines h ended = by_feed (byte == 10) refl h (lines_of-cut bytes) where
   by_feed : (feed : Bool) → (byte == 10) ≡ feed → (if feed then record { text = []; ended = true } ∷ lines_of bytes else onto_first byte (lines_of bytes)) ≡ line ∷ lines
-      → ((first : Line) (others : List Line) → lines_of bytes ≡ first ∷ others → first.ended ≡ true → EndsAt bytes first others)
+      → ((first : TextLine) (others : List TextLine) → lines_of bytes ≡ first ∷ others → first.ended ≡ true → EndsAt bytes first others)
       → EndsAt (byte ∷ bytes) line lines
   by_feed true is h cut = at_feed byte bytes line lines is h
   by_feed false is h cut = in_line byte bytes line lines (lines_of bytes) refl h ended cut
@@ -77,27 +79,27 @@ lines_of-cut (byte ∷ bytes) line lines h ended = by_feed (byte == 10) refl h (
 pub lines_of-empty : (bytes : List ℕ) → lines_of bytes ≡ [] → bytes ≡ []
 lines_of-empty [] h = refl
 lines_of-empty (byte ∷ bytes) h = absurd (by_feed (byte == 10) (lines_of bytes) h) where
-  by_feed : (feed : Bool) (lines : List Line) → (if feed then record { text = []; ended = true } ∷ lines else onto_first byte lines) ≡ [] → ⊥
+  by_feed : (feed : Bool) (lines : List TextLine) → (if feed then record { text = []; ended = true } ∷ lines else onto_first byte lines) ≡ [] → ⊥
   by_feed true lines h = cc
   by_feed false [] h = cc
   by_feed false (line ∷ lines) h = cc
 
 -- a good line is the first line, and its event is read
-pub good_is_read : (group : Parameters) (number : ℕ) (text after : List ℕ) (event : Event) → IsGoodLine group number text event
-    → (lines_of (text ++ 10 ∷ after) ≡ record { text = text; ended = true } ∷ lines_of after) × (event_at group number (record { text = text; ended = true }) ≡ Some event)
-good_is_read group number text after event (spelled, inside, short, early) = (
-  lines_of-line text after (SpellsEvent-no_feed text event spelled),
-  good_line group number text (omega (arith, short)) early ∙ SpellsEvent-read group text event spelled inside,
+pub good_is_read : (shape : Shape) (number : ℕ) (text after : List ℕ) (event : Line) → IsGoodLine shape number text event
+    → (lines_of (text ++ 10 ∷ after) ≡ record { text = text; ended = true } ∷ lines_of after) × (line_at shape number (record { text = text; ended = true }) ≡ Some event)
+good_is_read shape number text after event (spelled, inside, short, early) = (
+  lines_of-line text after (SpellsLine-no_feed text event spelled),
+  good_line shape number text (omega (arith, short)) early ∙ SpellsLine-read shape text event spelled inside,
 )
 
 -- a line that is read as an event is good
-pub read_is_good : (group : Parameters) (number : ℕ) (line : Line) (event : Event) → event_at group number line ≡ Some event
-    → (line.ended ≡ true) × IsGoodLine group number line.text event
-read_is_good group number line event h =
-    let (ended, short, early, found) = tested line.ended (length line.text) number (event_of group line.text) event h in
-    let (spelled, inside) = read-SpellsEvent group line.text event found in
+pub read_is_good : (shape : Shape) (number : ℕ) (line : TextLine) (event : Line) → line_at shape number line ≡ Some event
+    → (line.ended ≡ true) × IsGoodLine shape number line.text event
+read_is_good shape number line event h =
+    let (ended, short, early, found) = tested line.ended (length line.text) number (line_in shape line.text) event h in
+    let (spelled, inside) = read-SpellsLine shape line.text event found in
     (ended, (spelled, inside, short, early)) where
-      tested : (ended : Bool) (len number : ℕ) (found : Option Event) (event : Event)
+      tested : (ended : Bool) (len number : ℕ) (found : Option Line) (event : Line)
           → (if ended && nat_le (len + 1) longest_line && nat_le number most_lines then found else None) ≡ Some event
           → (ended ≡ true) × (len + 1 ≤ longest_line) × (number ≤ most_lines) × (found ≡ Some event)
       tested ended len number found event h = grind (arith, nat_tests)

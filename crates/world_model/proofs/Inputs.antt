@@ -3,8 +3,8 @@ use Rattle.std.proofs.Common.{◌≡◌, ℕ, suc, ◌+◌, ◌<◌, ◌≤◌, 
 use Rattle.std.specs.Prelude.{◌==◌, nat_le}
 use Rattle.std.specs.List.{list_any}
 use Rattle.std.proofs.lemmas.Bool.Decides.{nat_tests}
-use Rattle.craft_base.specs.Parameters.{Parameters}
-use Rattle.world_model.specs.Schedule.{Line, lines_of, onto_first, event_of, event_at, reading_with, reading_from, most_lines, longest_line}
+use Rattle.craft_base.specs.Shape.{Shape}
+use Rattle.world_model.specs.Schedule.{TextLine, lines_of, onto_first, line_in, line_at, reading_with, reading_from, most_lines, longest_line}
 
 first_is_none : (byte : ℕ) (bytes : List ℕ) → list_any (λ b. b == 10) (byte ∷ bytes) ≡ false → (byte == 10) ≡ false
 first_is_none byte bytes none = either_false (byte == 10) (list_any (λ b. b == 10) bytes) none where
@@ -38,8 +38,8 @@ lines_of-unended byte (next ∷ text) none =
 
 -- a first line that is at least that long
 pub record BeginsWith (bytes : List ℕ) (count : ℕ) : Type 0 where
-  pub first : Line
-  pub others : List Line
+  pub first : TextLine
+  pub others : List TextLine
   pub are : lines_of bytes ≡ first ∷ others
   pub long : count ≤ length first.text
 
@@ -52,7 +52,7 @@ onto_long byte count bytes none b =
       long = omega (arith, b.long);
     }
 
-onto_some : (byte : ℕ) (lines : List Line) → (first : Line) × (others : List Line) × (onto_first byte lines ≡ first ∷ others) × (1 ≤ length first.text)
+onto_some : (byte : ℕ) (lines : List TextLine) → (first : TextLine) × (others : List TextLine) × (onto_first byte lines ≡ first ∷ others) × (1 ≤ length first.text)
 onto_some byte [] = (record { text = byte ∷ []; ended = false }, [], refl, omega arith)
 onto_some byte (line ∷ lines) = (record line { text = byte ∷ line.text }, lines, refl, omega arith)
 
@@ -66,29 +66,29 @@ lines_of-long byte (next ∷ text) rest none =
     (lines_of-long next text rest (rest_is_none byte (next ∷ text) none))
 
 -- the reading of lines of which the first is bad
-pub reading-bad : (group : Parameters) (number : ℕ) (line : Line) (lines : List Line) → event_at group number line ≡ None
-    → reading_from group number (line ∷ lines) ≡ record { events = []; bad = Some number }
-reading-bad group number line lines none = ap (λ event. reading_with number event (reading_from group (number + 1) lines)) none
+pub reading-bad : (shape : Shape) (number : ℕ) (line : TextLine) (lines : List TextLine) → line_at shape number line ≡ None
+    → reading_from shape number (line ∷ lines) ≡ record { events = []; bad = Some number }
+reading-bad shape number line lines none = ap (λ event. reading_with number event (reading_from shape (number + 1) lines)) none
 
 -- a line that hasn't ended, is too long or comes too late is bad
-pub unended_is_bad : (group : Parameters) (number : ℕ) (text : List ℕ) → event_at group number (record { text = text; ended = false }) ≡ None
-unended_is_bad group number text = refl
+pub unended_is_bad : (shape : Shape) (number : ℕ) (text : List ℕ) → line_at shape number (record { text = text; ended = false }) ≡ None
+unended_is_bad shape number text = refl
 
-pub long_is_bad : (group : Parameters) (number : ℕ) (line : Line) → longest_line ≤ length line.text → event_at group number line ≡ None
-long_is_bad group number line long = ap (λ test. cond test (event_of group line.text) None) (too_long line.ended (length line.text) (nat_le number most_lines) long) where
+pub long_is_bad : (shape : Shape) (number : ℕ) (line : TextLine) → longest_line ≤ length line.text → line_at shape number line ≡ None
+long_is_bad shape number line long = ap (λ test. cond test (line_in shape line.text) None) (too_long line.ended (length line.text) (nat_le number most_lines) long) where
   too_long : (ended : Bool) (len : ℕ) (early : Bool) → longest_line ≤ len → (ended && nat_le (len + 1) longest_line && early) ≡ false
   too_long true len early h = grind (arith, nat_tests)
   too_long false len early h = refl
 
-pub late_is_bad : (group : Parameters) (number : ℕ) (line : Line) → most_lines < number → event_at group number line ≡ None
-late_is_bad group number line late = ap (λ test. cond test (event_of group line.text) None) (too_late (line.ended && nat_le (length line.text + 1) longest_line) number late) where
+pub late_is_bad : (shape : Shape) (number : ℕ) (line : TextLine) → most_lines < number → line_at shape number line ≡ None
+late_is_bad shape number line late = ap (λ test. cond test (line_in shape line.text) None) (too_late (line.ended && nat_le (length line.text + 1) longest_line) number late) where
   too_late : (good : Bool) (n : ℕ) → most_lines < n → (good && nat_le n most_lines) ≡ false
   too_late true n h = grind (arith, nat_tests)
   too_late false n h = refl
 
 -- a line with its line feed that is short enough and early enough is what its text says
-pub good_line : (group : Parameters) (number : ℕ) (text : List ℕ) → length text < longest_line → number ≤ most_lines
-    → event_at group number (record { text = text; ended = true }) ≡ event_of group text
-good_line group number text short early = ap (λ test. cond test (event_of group text) None) (passes (length text) number short early) where
+pub good_line : (shape : Shape) (number : ℕ) (text : List ℕ) → length text < longest_line → number ≤ most_lines
+    → line_at shape number (record { text = text; ended = true }) ≡ line_in shape text
+good_line shape number text short early = ap (λ test. cond test (line_in shape text) None) (passes (length text) number short early) where
   passes : (len n : ℕ) → len < longest_line → n ≤ most_lines → (nat_le (len + 1) longest_line && nat_le n most_lines) ≡ true
   passes len n short early = grind (arith, nat_tests)

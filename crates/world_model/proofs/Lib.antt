@@ -1,14 +1,17 @@
 mod Examples
 mod OutputExamples
 pub mod Frames
-pub mod Places
+pub mod Positions
 pub mod Turns
+pub mod Recorded
+pub mod Applying
 pub mod Ranges
 pub mod Inputs
 pub mod Numerals
 pub mod Runs
 pub mod Spelling
-pub mod EventLines
+pub mod InnerLines
 pub mod BadLines
 pub mod Readings
 pub mod CommandWords
+pub mod Told

@@ -6,3 +6,4 @@ pub mod Tick
 pub mod Vote
 pub mod VoteReply
 pub mod Worlds
+pub mod Turns

@@ -1,13 +1,14 @@
 -- A run goes on by one event.
 use Rattle.std.proofs.Common.{◌≡◌, ℕ, suc, ◌+◌, List, [], ◌∷◌, ◌++◌, length, refl, ap, ◌∙◌, sym, arith, append_assoc, append-nil}
+use Rattle.world_model.specs.declared.line.Line.{Line}
 use Rattle.world_model.specs.Lines.{event_text, lines_from}
-use Rattle.world_model.specs.World.{World, Event, step, run_from}
+use Rattle.world_model.specs.World.{World, step, run_from}
 
-pub run_from-append : (w : World) (events more : List Event) → run_from w (events ++ more) ≡ run_from (run_from w events) more
+pub run_from-append : (w : World) (events more : List Line) → run_from w (events ++ more) ≡ run_from (run_from w events) more
 run_from-append w [] more = refl
 run_from-append w (event ∷ events) more = run_from-append (step w event).world events more
 
-pub lines_from-append : (number : ℕ) (w : World) (events : List Event) (event : Event)
+pub lines_from-append : (number : ℕ) (w : World) (events : List Line) (event : Line)
     → lines_from number w (events ++ event ∷ []) ≡ lines_from number w events ++ event_text (number + length events) (run_from w events) (step (run_from w events) event)
 lines_from-append number w [] event =
     let here : number ≡ number + 0 = omega arith in

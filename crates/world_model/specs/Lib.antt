@@ -1,13 +1,11 @@
-pub mod Logs
 pub mod Nodes
-pub mod Knowledge
 pub mod Rules
 pub mod Turn
 pub mod World
 pub mod Lines
 pub mod Numbers
-pub mod Safety
 pub mod Schedule
 pub mod Words
 pub mod Spelling
+pub mod Safety
 pub mod Ranges

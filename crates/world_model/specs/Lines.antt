@@ -2,15 +2,24 @@
 use Rattle.std.specs.Prelude.{ℕ, ◌+◌, List, [], ◌∷◌, ◌++◌, length, codes, Bool, true, false, Option, None, Some}
 use Rattle.std.specs.Fmt.{decimal}
 use Rattle.hex.specs.Hex.{encode_lower}
-use Rattle.craft_base.specs.Parameters.{Parameters}
+use Rattle.craft_base.specs.Shape.{Shape}
 use Rattle.craft_base.specs.declared.command.Entry.{Entry}
 use Rattle.craft_base.specs.declared.command.Form.{Form}
 use Rattle.craft_base.specs.declared.command.Form.TheVariants.{Whole, Part}
 use Rattle.craft_base.specs.declared.command.Reply.{Reply}
 use Rattle.craft_base.specs.declared.command.Reply.TheVariants as replies
-use Rattle.entry_frames.specs.Messages.{Body, VoteRequest, VoteReply, AppendEntries, Matched, Refused, Ask, Answer}
-use Rattle.entry_frames.specs.Outputs.{Role, Follower, Candidate, Preparing, Leader, Output, RoleChange, Cut, BecameWhole, Committed, Answers, Send}
-use Rattle.world_model.specs.World.{Event, World, Verdict, Done, NoFrame, Happened, start, step}
+use Rattle.entry_frames.specs.declared.peer.Peer.{Peer}
+use Rattle.entry_frames.specs.declared.peer.Peer.TheVariants as peers
+use Rattle.entry_frames.specs.declared.message.Message.{Message}
+use Rattle.entry_frames.specs.declared.message.Message.TheVariants as messages
+use Rattle.entry_frames.specs.declared.output.Output.{Output}
+use Rattle.entry_frames.specs.declared.output.Output.TheVariants as outputs
+use Rattle.entry_frames.specs.declared.role.Role.{Role}
+use Rattle.entry_frames.specs.declared.role.Role.TheVariants.{Follower, Candidate, Preparing, Leader}
+use Rattle.world_model.specs.World.{World, Happened, start, step}
+use Rattle.world_model.specs.declared.line.Line.{Line}
+use Rattle.world_model.specs.declared.verdict.Verdict.{Verdict}
+use Rattle.world_model.specs.declared.verdict.Verdict.TheVariants.{Done, NoFrame}
 
 -- words between single blanks, and a line feed
 abbrev pub line_of : List (List ℕ) → List ℕ
@@ -66,16 +75,21 @@ abbrev pub forms_word : List Entry → List ℕ
 forms_word [] = codes "-"
 forms_word (entry ∷ entries) = form_letters (entry ∷ entries)
 
--- a message's name, its term and its fields
-abbrev pub message_words : ℕ → Body → List (List ℕ)
-message_words term (VoteRequest last_term last) = codes "vote" ∷ decimal term ∷ decimal last_term ∷ decimal last ∷ []
-message_words term (VoteReply granted) = codes "voted" ∷ decimal term ∷ yes_or_no granted ∷ []
-message_words term (AppendEntries prev prev_term commit entries) =
+-- what one member says to another: its name, its term and its fields
+abbrev pub peer_words : ℕ → Peer → List (List ℕ)
+peer_words term (peers.Vote last_term last) = codes "vote" ∷ decimal term ∷ decimal last_term ∷ decimal last ∷ []
+peer_words term (peers.VoteReply granted) = codes "voted" ∷ decimal term ∷ yes_or_no granted ∷ []
+peer_words term (peers.Append prev prev_term commit entries) =
     codes "append" ∷ decimal term ∷ decimal prev ∷ decimal prev_term ∷ decimal commit ∷ forms_word entries ∷ []
-message_words term (Matched prev count mask) = codes "matched" ∷ decimal term ∷ decimal prev ∷ decimal count ∷ byte_word mask ∷ []
-message_words term (Refused next) = codes "refused" ∷ decimal term ∷ decimal next ∷ []
-message_words term (Ask start) = codes "ask" ∷ decimal term ∷ decimal start ∷ []
-message_words term (Answer start last slots) = codes "answer" ∷ decimal term ∷ decimal start ∷ decimal last ∷ forms_word slots ∷ []
+peer_words term (peers.Matched prev count mask) = codes "matched" ∷ decimal term ∷ decimal prev ∷ decimal count ∷ byte_word mask ∷ []
+peer_words term (peers.Refused next) = codes "refused" ∷ decimal term ∷ decimal next ∷ []
+peer_words term (peers.Ask start) = codes "ask" ∷ decimal term ∷ decimal start ∷ []
+peer_words term (peers.Answer start last slots) = codes "answer" ∷ decimal term ∷ decimal start ∷ decimal last ∷ forms_word slots ∷ []
+
+-- a message of one member to another: who sends and who receives it, and what it says
+abbrev pub message_words : Message → List (List ℕ)
+message_words (messages.Peer sender receiver term body) = decimal sender ∷ decimal receiver ∷ peer_words term body
+message_words _ = []
 
 -- what a client is told
 abbrev pub reply_words : Reply → List (List ℕ)
@@ -94,19 +108,19 @@ reply_words replies.Full = codes "full" ∷ []
 
 -- the words of an output of a member; what it sends has the frame number
 abbrev pub output_words : ℕ → ℕ → Output → List (List ℕ)
-output_words me frame (RoleChange role term) = codes "role" ∷ decimal me ∷ role_word role ∷ decimal term ∷ []
-output_words me frame (Cut index prepares) = codes "cut" ∷ decimal me ∷ decimal index ∷ cut_word prepares ∷ []
-output_words me frame (BecameWhole index) = codes "whole" ∷ decimal me ∷ decimal index ∷ []
-output_words me frame (Committed index) = codes "commit" ∷ decimal me ∷ decimal index ∷ []
-output_words me frame (Answers place client seq reply) = codes "reply" ∷ decimal me ∷ decimal client ∷ decimal seq ∷ reply_words reply
-output_words me frame (Send m) = codes "send" ∷ decimal frame ∷ decimal m.sender ∷ decimal m.receiver ∷ message_words m.term m.body
+output_words me frame (outputs.Role role term) = codes "role" ∷ decimal me ∷ role_word role ∷ decimal term ∷ []
+output_words me frame (outputs.Cut index prepares) = codes "cut" ∷ decimal me ∷ decimal index ∷ cut_word prepares ∷ []
+output_words me frame (outputs.Whole index) = codes "whole" ∷ decimal me ∷ decimal index ∷ []
+output_words me frame (outputs.Commit index) = codes "commit" ∷ decimal me ∷ decimal index ∷ []
+output_words me frame (outputs.Reply place client seq reply) = codes "reply" ∷ decimal me ∷ decimal client ∷ decimal seq ∷ reply_words reply
+output_words me frame (outputs.Send m) = codes "send" ∷ decimal frame ∷ message_words m
 
 abbrev pub output_line : ℕ → ℕ → Output → List ℕ
 output_line me frame output = line_of (output_words me frame output)
 
 -- the frame number after an output
 abbrev pub next_frame : ℕ → Output → ℕ
-next_frame frame (Send m) = frame + 1
+next_frame frame (outputs.Send m) = frame + 1
 next_frame frame _ = frame
 
 -- a line for each output; frame is the number of the next one that is sent
@@ -123,10 +137,10 @@ abbrev pub event_text : ℕ → World → Happened → List ℕ
 event_text number before h = event_lines number (length before.sent + 1) h
 
 -- the text of events from a world on, the first of which has that number
-abbrev pub lines_from : ℕ → World → List Event → List ℕ
+abbrev pub lines_from : ℕ → World → List Line → List ℕ
 lines_from number w [] = []
 lines_from number w (event ∷ events) = event_text number w (step w event) ++ lines_from (number + 1) (step w event).world events
 
 -- the text of a run
-abbrev pub lines_of_run : Parameters → List Event → List ℕ
-lines_of_run group events = lines_from 1 (start group) events
+abbrev pub lines_of_run : Shape → List Line → List ℕ
+lines_of_run shape events = lines_from 1 (start shape) events

@@ -1,22 +1,10 @@
--- A member of the group as it runs.
-use Rattle.std.specs.Prelude.{ℕ, List, [], Bool, Option, None}
-use Rattle.craft_base.specs.Parameters.{Parameters}
-use Rattle.craft_base.specs.declared.command.Entry.{Entry}
-use Rattle.entry_frames.specs.Outputs.{Role, Follower}
-
--- what outlives a crash, and nothing else does
-pub record Durable : Type 0 where
-  pub term : ℕ
-  pub vote : Option ℕ
-  pub log : List Entry
-  pub commit : ℕ
-
--- one thing heard in a term
-pub data Heard : Type 0 where
-  -- a tick of a leader, by which it tells who answered since the one before
-  Beat : Heard
-  -- a reply to the request for a vote
-  Voted : (sender : ℕ) (granted : Bool) → Heard
+-- A member of the cluster as it runs.
+use Rattle.std.specs.Prelude.{ℕ, List, [], ◌∷◌, Option, None}
+use Rattle.craft_base.specs.Knowledge.{Heard}
+use Rattle.craft_base.specs.Shape.{Shape}
+use Rattle.entry_frames.specs.Durable.{Durable}
+use Rattle.entry_frames.specs.declared.role.Role.{Role}
+use Rattle.entry_frames.specs.declared.role.Role.TheVariants.{Follower}
 
 -- what a crash loses
 pub record Volatile : Type 0 where
@@ -28,22 +16,23 @@ pub record Volatile : Type 0 where
   -- all that was heard in this term, the latest first
   pub heard : List Heard
 
+-- a member: what outlives a crash is its durable part, and nothing else does
 pub record Node : Type 0 where
-  pub group : Parameters
+  pub shape : Shape
   pub me : ℕ
   pub durable : Durable
   pub volatile : Volatile
 
--- before any record: no term, no vote, an empty log
-abbrev pub born : Durable
-born = record { term = 0; vote = None; log = []; commit = 0 }
-
 -- a member that has just started over what outlived its last run
-abbrev pub started : Parameters → ℕ → Durable → Node
-started group me durable =
+abbrev pub started : Shape → ℕ → Durable → Node
+started shape me durable =
     record {
-      group = group;
+      shape = shape;
       me = me;
       durable = durable;
       volatile = record { role = Follower; quiet = 0; hint = None; heard = [] };
     }
+
+-- the node with one more thing heard
+abbrev pub node_hearing : Heard → Node → Node
+node_hearing item n = record n { volatile = record n.volatile { heard = item ∷ n.volatile.heard } }

@@ -1,19 +1,34 @@
 -- What holds of every run.
-use Rattle.std.specs.Prelude.{◌≡◌, ℕ, List, take, Option, None, Some, slice_get}
-use Rattle.craft_base.specs.Parameters.{Parameters}
-use Rattle.entry_frames.specs.Outputs.{Leader}
+use Rattle.std.specs.Prelude.{◌≡◌, ℕ, List, take, All, Option, None, Some, slice_get}
+use Rattle.craft_base.specs.Shape.{Shape}
+use Rattle.entry_frames.specs.declared.role.Role.{Role}
+use Rattle.entry_frames.specs.declared.role.Role.TheVariants.{Preparing, Leader}
 use Rattle.world_model.specs.Nodes.{Node}
-use Rattle.world_model.specs.World.{Event, run}
+use Rattle.world_model.specs.Spelling.{IsLineOf}
+use Rattle.craft_base.specs.Shape.{IsShape}
+use Rattle.world_model.specs.World.{run}
+use Rattle.world_model.specs.declared.line.Line.{Line}
 
--- the node leads that term
+-- it has won its term: it leads it, or prepares to
+abbrev pub HasWon : Role → Type 0
+HasWon Preparing = Unit {0}
+HasWon Leader = Unit {0}
+HasWon _ = ⊥
+
+-- the node leads that term, or prepares to
 abbrev pub LeadsTerm : Option Node → ℕ → Type 0
 LeadsTerm None term = ⊥
-LeadsTerm (Some n) term = (n.volatile.role ≡ Leader) × (n.durable.term ≡ term)
+LeadsTerm (Some n) term = HasWon n.volatile.role × (n.durable.term ≡ term)
 
--- the member led that term after some front of the events
-abbrev pub EverLed : Parameters → List Event → ℕ → ℕ → Type 0
-EverLed group events term member = (count : ℕ) × LeadsTerm (slice_get (run group (take count events)).nodes member) term
+-- the member led that term, or prepared to, after some front of the events
+abbrev pub EverLed : Shape → List Line → ℕ → ℕ → Type 0
+EverLed shape events term member = (count : ℕ) × LeadsTerm (slice_get (run shape (take count events)).nodes member) term
 
 -- no term has two members that were ever its leader
-abbrev pub OneLeaderATerm : Parameters → List Event → Type 0
-OneLeaderATerm group events = (term one other : ℕ) → EverLed group events term one → EverLed group events term other → one ≡ other
+abbrev pub OneLeaderATerm : Shape → List Line → Type 0
+OneLeaderATerm shape events = (term one other : ℕ) → EverLed shape events term one → EverLed shape events term other → one ≡ other
+
+-- a run of a cluster: its shape's numbers are in range, and so are those of each event
+pub record IsRun (shape : Shape) (events : List Line) : Type 0 where
+  pub of_shape : IsShape shape
+  pub in_range : All (IsLineOf shape) events

@@ -1,61 +1,103 @@
--- One turn of a node: the rule that an event calls for, and its outputs in their order.
+-- One turn of a node: the rule that an event calls for, its records and its outputs in their order.
 use Rattle.std.specs.Prelude.{ℕ, List, [], ◌∷◌, ◌++◌, map, Bool, true, false, ◌&&◌, ◌==◌, if◌then◌else◌, nat_lt}
-use Rattle.entry_frames.specs.Messages.{Body, VoteRequest, VoteReply, AppendEntries, Matched, Refused, Ask, Answer, Message}
-use Rattle.entry_frames.specs.Outputs.{Role, Follower, Candidate, Preparing, Leader, Output, RoleChange, Send}
+use Rattle.craft_base.specs.declared.command.Request.{Request}
+use Rattle.entry_frames.specs.Records.{Record, Cut, Whole}
+use Rattle.entry_frames.specs.declared.message.Message.{Message}
+use Rattle.entry_frames.specs.declared.message.Message.TheVariants as messages
+use Rattle.entry_frames.specs.declared.output.Output.{Output}
+use Rattle.entry_frames.specs.declared.output.Output.TheVariants as outputs
+use Rattle.entry_frames.specs.declared.peer.Peer.{Peer}
+use Rattle.entry_frames.specs.declared.peer.Peer.TheVariants as peers
+use Rattle.entry_frames.specs.declared.role.Role.{Role}
+use Rattle.entry_frames.specs.declared.role.Role.TheVariants.{Follower, Candidate, Preparing, Leader}
 use Rattle.world_model.specs.Nodes.{Node}
-use Rattle.world_model.specs.Rules.Acts.{Act, stays}
-use Rattle.world_model.specs.Rules.Terms.{caught_up, refuses_stale}
-use Rattle.world_model.specs.Rules.Tick.{ticks}
-use Rattle.world_model.specs.Rules.Vote.{considers_vote}
-use Rattle.world_model.specs.Rules.VoteReply.{counts_reply}
+use Rattle.world_model.specs.Rules.Acts.{Act, stays, followed_by, IsRecorded}
+use Rattle.world_model.specs.Rules.Terms.{act_of_term, act_of_lower_term}
+use Rattle.world_model.specs.Rules.Tick.{act_of_tick}
+use Rattle.world_model.specs.Rules.Vote.{act_of_vote_request}
+use Rattle.world_model.specs.Rules.VoteReply.{act_of_vote_reply}
 
 -- what a node is told
-pub data Input : Type 0 where
+pub data Event : Type 0 where
   -- time passes; the clock's word chooses how long is long enough
-  Tick : (word : ℕ) → Input
+  Tick : (word : ℕ) → Event
   -- a message comes
-  Deliver : Message → Input
+  Frame : Message → Event
+  -- a client asks; no rule takes it yet
+  Call : (place : ℕ) → Request → Event
 
--- a message of the node's own term, by what it says
-abbrev pub takes_body : Node → ℕ → Body → Act
-takes_body n sender (VoteRequest last_term last) = considers_vote n sender last_term last
-takes_body n sender (VoteReply granted) = counts_reply n sender granted
--- the rules of these aren't built yet
-takes_body n sender (AppendEntries prev prev_term commit entries) = stays n
-takes_body n sender (Matched prev count mask) = stays n
-takes_body n sender (Refused next) = stays n
-takes_body n sender (Ask start) = stays n
-takes_body n sender (Answer start last slots) = stays n
+-- ---- the rule
 
--- a message, by its term and then by what it says
-abbrev pub takes : Message → Node → Act
-takes m n = if nat_lt m.term n.durable.term then refuses_stale n m else takes_body (caught_up n m) m.sender m.body
+-- what another member says in the node's own term
+abbrev pub act_of_peer : Node → ℕ → Peer → Act
+act_of_peer n sender (peers.Vote last_term last) = act_of_vote_request n sender last_term last
+act_of_peer n sender (peers.VoteReply granted) = act_of_vote_reply n sender granted
+act_of_peer n sender _ = stays n
 
-abbrev pub acts : Input → Node → Act
-acts (Tick word) n = ticks word n
-acts (Deliver m) n = takes m n
+-- a message of another member, by its term and then by what it says; of others nothing comes
+abbrev pub act_of_message : Message → Node → Act
+act_of_message (messages.Peer sender receiver term body) n =
+    if nat_lt term n.durable.term then act_of_lower_term n sender body else followed_by (act_of_term term n) (λ now. act_of_peer now sender body)
+act_of_message _ n = stays n
 
-abbrev pub same_role : Role → Role → Bool
-same_role Follower Follower = true
-same_role Candidate Candidate = true
-same_role Preparing Preparing = true
-same_role Leader Leader = true
-same_role _ _ = false
+abbrev pub act_of : Event → Node → Act
+act_of (Tick word) n = act_of_tick word n
+act_of (Frame m) n = act_of_message m n
+act_of (Call place request) n = stays n
+
+-- what outlives a crash is what the records of a turn leave, whatever a node is told
+abbrev pub EveryTurnIsRecorded : Type 0
+EveryTurnIsRecorded = (event : Event) (n : Node) → IsRecorded n (act_of event n)
+
+-- ---- what is told of it
+
+abbrev pub is_same_role : Role → Role → Bool
+is_same_role Follower Follower = true
+is_same_role Candidate Candidate = true
+is_same_role Preparing Preparing = true
+is_same_role Leader Leader = true
+is_same_role _ _ = false
 
 -- the role and the term, where one of them is another than before
-abbrev pub role_change : Node → Node → List Output
-role_change before after =
-    if same_role before.volatile.role after.volatile.role && (before.durable.term == after.durable.term)
+abbrev pub role_outputs : Node → Node → List Output
+role_outputs before now =
+    if is_same_role before.volatile.role now.volatile.role && (before.durable.term == now.durable.term)
     then []
-    else RoleChange after.volatile.role after.durable.term ∷ []
+    else outputs.Role now.volatile.role now.durable.term ∷ []
 
--- the node after a turn, and what it tells: its role first, then what it sends
+-- whether what was removed was removed in a preparation: the node prepared the term in which it still is
+abbrev pub is_preparation : Node → Node → Bool
+is_preparation before now = is_same_role before.volatile.role Preparing && (before.durable.term == now.durable.term)
+
+abbrev pub cut_outputs : Bool → List Record → List Output
+cut_outputs prep [] = []
+cut_outputs prep (Cut index ∷ records) = outputs.Cut index prep ∷ cut_outputs prep records
+cut_outputs prep (_ ∷ records) = cut_outputs prep records
+
+abbrev pub whole_outputs : List Record → List Output
+whole_outputs [] = []
+whole_outputs (Whole index bytes ∷ records) = outputs.Whole index ∷ whole_outputs records
+whole_outputs (_ ∷ records) = whole_outputs records
+
+-- the commit index, where it grew
+abbrev pub commit_outputs : Node → Node → List Output
+commit_outputs before now = if nat_lt before.durable.commit now.durable.commit then outputs.Commit now.durable.commit ∷ [] else []
+
+-- what follows from the records of a turn and from its two ends
+abbrev pub changes_told : Node → Act → List Output
+changes_told before act =
+    role_outputs before act.node
+    ++ (cut_outputs (is_preparation before act.node) act.records ++ (whole_outputs act.records ++ commit_outputs before act.node))
+
+-- the node after a turn, the records that are to be in its journal before anything is told, and what is told: first what changed,
+-- and then what is sent
 pub record Turned : Type 0 where
   pub node : Node
+  pub records : List Record
   pub outputs : List Output
 
-abbrev pub told : Node → Act → Turned
-told before act = record { node = act.node; outputs = role_change before act.node ++ map Send act.sends }
+abbrev pub turned : Node → Act → Turned
+turned before act = record { node = act.node; records = act.records; outputs = changes_told before act ++ map outputs.Send act.sends }
 
-abbrev pub turn : Input → Node → Turned
-turn input n = told n (acts input n)
+abbrev pub turn : Event → Node → Turned
+turn event n = turned n (act_of event n)

@@ -1,18 +1,20 @@
--- A whole group and its network, and what an event of a schedule makes of them.
+-- A whole cluster and its network, and what a line of a schedule makes of them.
 use Rattle.std.specs.Prelude.{ℕ, ◌-◌, List, [], ◌∷◌, ◌++◌, map, Option, None, Some, slice_get, slice_set}
-use Rattle.craft_base.specs.Parameters.{Parameters}
-use Rattle.entry_frames.specs.Messages.{Message}
-use Rattle.entry_frames.specs.Outputs.{Output, Send}
-use Rattle.world_model.specs.Knowledge.{members}
-use Rattle.world_model.specs.Nodes.{Node, started, born}
-use Rattle.world_model.specs.Turn.{Input, Tick, Deliver, Turned, turn}
-
--- one line of a schedule
-pub data Event : Type 0 where
-  -- time passes at a member
-  TickAt : (member word : ℕ) → Event
-  -- a frame is delivered; frames are numbered from 1, in the order in which they were sent
-  Take : (frame : ℕ) → Event
+use Rattle.craft_base.specs.Shape.{Shape}
+use Rattle.entry_frames.specs.Durable.{born}
+use Rattle.entry_frames.specs.MessageParts.{receiver_byte}
+use Rattle.entry_frames.specs.declared.message.Message.{Message}
+use Rattle.entry_frames.specs.declared.output.Output.{Output}
+use Rattle.entry_frames.specs.declared.output.Output.TheVariants as outputs
+use Rattle.world_model.specs.declared.line.Inner.{Inner}
+use Rattle.world_model.specs.declared.line.Inner.TheVariants.{Tick, Take}
+use Rattle.world_model.specs.declared.line.Line.{Line}
+use Rattle.world_model.specs.declared.line.Line.TheVariants.{Do}
+use Rattle.world_model.specs.declared.verdict.Verdict.{Verdict}
+use Rattle.world_model.specs.declared.verdict.Verdict.TheVariants.{Done, NoFrame}
+use Rattle.craft_base.specs.Knowledge.{members}
+use Rattle.world_model.specs.Nodes.{Node, started}
+use Rattle.world_model.specs.Turn as turns
 
 -- the members, and every message that was ever sent, the first frame first. What is never taken is lost; what is taken again is repeated.
 pub record World : Type 0 where
@@ -20,16 +22,10 @@ pub record World : Type 0 where
   pub sent : List Message
 
 -- each member runs, and none has ever run before
-abbrev pub start : Parameters → World
-start group = record { nodes = map (λ me. started group me born) (members group); sent = [] }
+abbrev pub start : Shape → World
+start shape = record { nodes = map (λ me. started shape me born) (members shape); sent = [] }
 
--- whether an event was carried out
-pub data Verdict : Type 0 where
-  Done : Verdict
-  -- the frame isn't sent yet
-  NoFrame : Verdict
-
--- what an event makes of the world, and what is told of it
+-- what a line makes of the world, and what is told of it
 pub record Happened : Type 0 where
   pub world : World
   pub verdict : Verdict
@@ -37,16 +33,16 @@ pub record Happened : Type 0 where
   pub outputs : List Output
 
 -- the messages among some outputs
-abbrev pub sent_of : List Output → List Message
-sent_of [] = []
-sent_of (Send m ∷ outputs) = m ∷ sent_of outputs
-sent_of (_ ∷ outputs) = sent_of outputs
+abbrev pub sent_among : List Output → List Message
+sent_among [] = []
+sent_among (outputs.Send m ∷ told) = m ∷ sent_among told
+sent_among (_ ∷ told) = sent_among told
 
 -- a member's turn takes the member's place, and what it sent can be delivered from then on
-abbrev pub after_turn : World → ℕ → Turned → Happened
+abbrev pub after_turn : World → ℕ → turns.Turned → Happened
 after_turn w member t =
     record {
-      world = record { nodes = slice_set w.nodes member t.node; sent = w.sent ++ sent_of t.outputs };
+      world = record { nodes = slice_set w.nodes member t.node; sent = w.sent ++ sent_among t.outputs };
       verdict = Done;
       member = member;
       outputs = t.outputs;
@@ -57,26 +53,30 @@ abbrev pub nothing : World → Verdict → Happened
 nothing w verdict = record { world = w; verdict = verdict; member = 0; outputs = [] }
 
 -- a turn of the member with that number
-abbrev pub turn_of : World → ℕ → Input → Option Node → Happened
-turn_of w member input None = nothing w Done
-turn_of w member input (Some n) = after_turn w member (turn input n)
+abbrev pub turn_of : World → ℕ → turns.Event → Option Node → Happened
+turn_of w member event None = nothing w Done
+turn_of w member event (Some n) = after_turn w member (turns.turn event n)
 
-abbrev pub turn_at : World → ℕ → Input → Happened
-turn_at w member input = turn_of w member input (slice_get w.nodes member)
+abbrev pub turn_at : World → ℕ → turns.Event → Happened
+turn_at w member event = turn_of w member event (slice_get w.nodes member)
 
--- the delivery of a frame to its receiver
+-- the delivery of a message to its receiver
 abbrev pub delivery : World → Option Message → Happened
 delivery w None = nothing w NoFrame
-delivery w (Some m) = turn_at w m.receiver (Deliver m)
+delivery w (Some m) = turn_at w (receiver_byte m) (turns.Frame m)
 
-abbrev pub step : World → Event → Happened
-step w (TickAt member word) = turn_at w member (Tick word)
-step w (Take frame) = delivery w (slice_get w.sent (frame - 1))
+-- frames are numbered from 1, in the order in which they were sent
+abbrev pub step_of : World → Inner → Happened
+step_of w (Tick member word) = turn_at w member (turns.Tick word)
+step_of w (Take frame) = delivery w (slice_get w.sent (frame - 1))
 
--- the world after a list of events
-abbrev pub run_from : World → List Event → World
+abbrev pub step : World → Line → Happened
+step w (Do inner) = step_of w inner
+
+-- the world after a list of lines
+abbrev pub run_from : World → List Line → World
 run_from w [] = w
-run_from w (event ∷ events) = run_from (step w event).world events
+run_from w (line ∷ lines) = run_from (step w line).world lines
 
-abbrev pub run : Parameters → List Event → World
-run group events = run_from (start group) events
+abbrev pub run : Shape → List Line → World
+run shape lines = run_from (start shape) lines

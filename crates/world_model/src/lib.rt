@@ -1,17 +1,29 @@
-//! The definitions of CRaft: the turn of a node, the group and its network, a run of events and the text that it
-//! prints. They stand in `specs/`, over plain lists and numbers; no program runs anything of this crate. Each function
-//! states a law of theirs as its contract.
+//! The definitions of CRaft: the turn of a node, the cluster and its network, a run of events and the text that it
+//! prints. They stand in `specs/`, over plain lists and numbers, and over the types that are declared here. No program runs
+//! anything of this crate: each function states a law of the definitions as its contract.
 #![tactic(auto)]
+
+mod command;
+mod limits;
+mod line;
+mod verdict;
 
 ghost use Rattle.std.specs.Prelude.{◌≡◌, ℕ, ◌<◌, ◌^◌, ◌↔◌, List};
 ghost use Rattle.std.specs.Fmt.{decimal};
-ghost use Rattle.craft_base.specs.Parameters.{Parameters};
+ghost use Rattle.craft_base.specs.Shape.{Shape};
 ghost use Rattle.world_model.specs.Numbers.{number_of};
-ghost use Rattle.world_model.specs.Ranges.{EveryRunInRange};
-ghost use Rattle.world_model.specs.Schedule.{event_of, reading};
-ghost use Rattle.world_model.specs.Spelling.{IsAllGood, IsCommand, IsEventOf, IsFirstBad, IsNumber, SpellsCommand, SpellsEvent};
-ghost use Rattle.world_model.specs.Words.{Command, plan};
-ghost use Rattle.world_model.specs.World.{Event};
+ghost use Rattle.world_model.specs.Ranges.{EveryRunInRange, EveryTurnCanBeApplied};
+ghost use Rattle.world_model.specs.Schedule.{line_in, reading};
+ghost use Rattle.world_model.specs.Spelling.{IsAllGood, IsCommand, IsFirstBad, IsLineOf, IsNumber, SpellsCommand, SpellsLine};
+ghost use Rattle.world_model.specs.Turn.{EveryTurnIsRecorded};
+ghost use Rattle.world_model.specs.Words.{plan};
+ghost use Rattle.world_model.specs.declared.command.Command.{Command};
+ghost use Rattle.world_model.specs.declared.line.Line.{Line};
+
+pub use command::Command;
+pub use limits::{LONGEST_LINE, MOST_LINES};
+pub use line::{Inner, Line};
+pub use verdict::Verdict;
 
 /// A word is read as a number exactly where it spells that number. Each number below 2^64 has one spelling, the decimal
 /// that is printed of it.
@@ -21,28 +33,28 @@ pub fn numbers_are_spelled_once()
     ensures each { (n : ℕ) → n < 2 ^ 64 → IsNumber (decimal n) n }
 {}
 
-/// A line of a schedule is read as an event exactly where it spells that event and the event is in range, and so as none
-/// where it is outside the grammar. Each event in range has one spelling.
+/// A text is read as a line of a schedule exactly where it spells that line and the line's numbers are in range, and so as none
+/// where it is outside the grammar. Each line in range has one spelling.
 pub fn lines_are_spelled_once()
-    ensures read { (group : Parameters) (line : List ℕ) (event : Event) →
-        (event_of group line ≡ Some event) ↔ (SpellsEvent line event × IsEventOf group event) }
-    ensures none { (group : Parameters) (line : List ℕ) →
-        (event_of group line ≡ None) ↔ ((event : Event) → SpellsEvent line event → IsEventOf group event → ⊥) }
-    ensures once { (line other : List ℕ) (event : Event) → SpellsEvent line event → SpellsEvent other event → line ≡ other }
-    ensures each { (group : Parameters) (event : Event) → IsEventOf group event → (line : List ℕ) × SpellsEvent line event }
+    ensures read { (shape : Shape) (text : List ℕ) (line : Line) →
+        (line_in shape text ≡ Some line) ↔ (SpellsLine text line × IsLineOf shape line) }
+    ensures none { (shape : Shape) (text : List ℕ) →
+        (line_in shape text ≡ None) ↔ ((line : Line) → SpellsLine text line → IsLineOf shape line → ⊥) }
+    ensures once { (text other : List ℕ) (line : Line) → SpellsLine text line → SpellsLine other line → text ≡ other }
+    ensures each { (shape : Shape) (line : Line) → IsLineOf shape line → (text : List ℕ) × SpellsLine text line }
 {}
 
 /// Which line of a schedule is the first bad one, if any, and what the lines before it say is told by the bytes alone: a
 /// line is good where it has its line feed, is at most 70,000 bytes long with it, is among the first 1,000,000 lines and
 /// spells an event in range.
 pub fn bad_lines_are_told_by_their_bytes()
-    ensures good { (group : Parameters) (bytes : List ℕ) (events : List Event) →
-        (reading group bytes ≡ record { events = events; bad = None }) ↔ IsAllGood group bytes events }
-    ensures bad { (group : Parameters) (bytes : List ℕ) (events : List Event) (n : ℕ) →
-        (reading group bytes ≡ record { events = events; bad = Some n }) ↔ IsFirstBad group bytes events n }
+    ensures good { (shape : Shape) (bytes : List ℕ) (events : List Line) →
+        (reading shape bytes ≡ record { events = events; bad = None }) ↔ IsAllGood shape bytes events }
+    ensures bad { (shape : Shape) (bytes : List ℕ) (events : List Line) (n : ℕ) →
+        (reading shape bytes ≡ record { events = events; bad = Some n }) ↔ IsFirstBad shape bytes events n }
 {}
 
-/// Words are read as a command, `replay`, `split` or `join` of a group, exactly where they spell it and the group's
+/// Words are read as a command, `replay`, `split` or `join` of a cluster, exactly where they spell it and the cluster's
 /// numbers are in range, and so as none where they are outside the grammar. Each command in range has one spelling.
 pub fn words_are_spelled_once()
     ensures read { (words : List (List ℕ)) (command : Command) →
@@ -54,7 +66,19 @@ pub fn words_are_spelled_once()
     ensures each { (command : Command) → IsCommand command → (words : List (List ℕ)) × SpellsCommand words command }
 {}
 
-/// Each message that is sent in a run of a group can be written as a frame of that group's, whatever the events: no term
+/// What outlives a crash changes by the records of a turn alone, whatever a node is told: applied in order, they leave what the
+/// turn makes of its durable part. So whoever has the records has the node, but for what a crash loses.
+pub fn every_turn_is_recorded()
+    ensures { EveryTurnIsRecorded }
+{}
+
+/// Each record of a turn can be applied to what those before it leave, where the node's numbers are in range and a message that
+/// comes has a spelling: it enters a later term, or casts a vote for a member in a term that had none.
+pub fn every_turn_can_be_applied()
+    ensures { EveryTurnCanBeApplied }
+{}
+
+/// Each message that is sent in a run of a cluster can be written as a frame of that cluster's, whatever the events: no term
 /// passes 2^62, no index passes 1,000,000, and messages go from one member to another.
 pub fn every_message_has_a_spelling()
     ensures { EveryRunInRange }

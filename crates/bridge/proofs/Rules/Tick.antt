@@ -2,13 +2,15 @@
 use Rattle.std.proofs.Common.{◌≡◌, ℕ, suc, ◌+◌, Some, sym, ap, ◌∙◌, arith, length}
 use Rattle.std.proofs.lemmas.Bool.{cond_both}
 use Rattle.std.proofs.lemmas.List.Elements.{All-nil, All-cons}
-use Rattle.craft_base.specs.Parameters.{Parameters}
-use Rattle.world_model.specs.Logs as node
-use Rattle.entry_frames.specs.Messages.{VoteRequest}
-use Rattle.entry_frames.specs.Outputs.{Role, Follower, Candidate, Preparing, Leader}
-use Rattle.world_model.specs.Nodes.{Beat, Node}
+use Rattle.craft_base.specs.Shape.{Shape}
+use Rattle.entry_frames.specs.Logs as node
+use Rattle.entry_frames.specs.declared.peer.Peer.TheVariants as peers
+use Rattle.entry_frames.specs.declared.role.Role.{Role}
+use Rattle.entry_frames.specs.declared.role.Role.TheVariants.{Follower, Candidate, Preparing, Leader}
+use Rattle.craft_base.specs.Knowledge.{Beat}
+use Rattle.world_model.specs.Nodes.{Node, node_hearing}
 use Rattle.world_model.specs.Rules.Acts.{stays}
-use Rattle.world_model.specs.Rules.Tick.{is_due, waits, as_candidate, asks_for_votes, waits_or_stands, beats, ticks_as, ticks}
+use Rattle.world_model.specs.Rules.Tick.{act_of_candidacy, act_of_election, act_of_tick, act_of_tick_as, act_of_waiting, is_due, waiting_node}
 use Rattle.protocol.specs.History as protocol
 use Rattle.protocol.specs.Logs.{last_term}
 use Rattle.protocol.specs.Moves.{Stand, after}
@@ -20,59 +22,59 @@ use Rattle.bridge.proofs.Views.{length_seen, last_term_seen}
 
 -- who stood, voted for itself and showed its log
 stood_for :
-    (g : protocol.History) (place term me : ℕ) → term ≡ suc (g.term place) → me ≡ place →
-    ((after g (Stand place)).voted term me ≡ Some me) × ((after g (Stand place)).stood term me ≡ g.log place)
-stood_for g place term me e at_place =
-    rw (e, at_place) (put_at_same (suc (g.term place)) place (Some place) g.voted, put_at_same (suc (g.term place)) place (g.log place) g.stood)
+    (g : protocol.History) (member term me : ℕ) → term ≡ suc (g.term member) → me ≡ member →
+    ((after g (Stand member)).voted term me ≡ Some me) × ((after g (Stand member)).stood term me ≡ g.log member)
+stood_for g member term me e at_member =
+    rw (e, at_member) (put_at_same (suc (g.term member)) member (Some member) g.voted, put_at_same (suc (g.term member)) member (g.log member) g.stood)
 
-module _ {shape : Parameters} {g : protocol.History} {place : ℕ} {n : Node} (a : NodeAgrees shape g place n) where
-  stands_agrees : NodeAgrees shape (after g (Stand place)) place (as_candidate n)
-  stands_agrees = record {
-    group = a.group;
+module _ {shape : Shape} {g : protocol.History} {member : ℕ} {n : Node} (a : NodeAgrees shape g member n) where
+  candidacy_agrees : NodeAgrees shape (after g (Stand member)) member (act_of_candidacy n).node
+  candidacy_agrees = record {
+    of_shape = a.of_shape;
     me = a.me;
     within = a.within;
-    term = put_same place (suc (g.term place)) g.term ∙ omega (arith, a.term);
-    vote = put_same place (Some place) g.vote ∙ ap Some (sym a.me);
+    term = put_same member (suc (g.term member)) g.term ∙ omega (arith, a.term);
+    vote = put_same member (Some member) g.vote ∙ ap Some (sym a.me);
     log = a.log;
     commit = a.commit;
-    role = put_same place protocol.Candidate g.role;
-    heard = All-nil (HeardAgrees (after g (Stand place)) (n.durable.term + 1) place);
+    role = put_same member protocol.Candidate g.role;
+    heard = All-nil (HeardAgrees (after g (Stand member)) (n.durable.term + 1) member);
   }
 
-  ask_agrees : AskAgrees (after g (Stand place)) (n.durable.term + 1) n.me (node.last_term n.durable.log) (node.last_index n.durable.log)
+  ask_agrees : AskAgrees (after g (Stand member)) (n.durable.term + 1) n.me (node.last_term n.durable.log) (node.last_index n.durable.log)
   ask_agrees =
-      let stood = stood_for g place (n.durable.term + 1) n.me (omega (arith, a.term)) a.me in
+      let stood = stood_for g member (n.durable.term + 1) n.me (omega (arith, a.term)) a.me in
       record {
         stood = stood.0;
         ends = ap last_term (stood.1 ∙ a.log) ∙ last_term_seen n.durable.log;
         long = ap length (stood.1 ∙ a.log) ∙ length_seen n.durable.log;
       }
 
-  stands_bridged : ActBridged shape g place (asks_for_votes (as_candidate n))
-  stands_bridged =
-      let ask = VoteRequest (node.last_term n.durable.log) (node.last_index n.durable.log) in
-      moved _ (own_move (Stand place) tt) stands_agrees (sends_to_others (as_candidate n) ask (λ receiver. ask_agrees))
+  election_bridged : ActBridged shape g member (act_of_election n)
+  election_bridged =
+      let ask = peers.Vote (node.last_term n.durable.log) (node.last_index n.durable.log) in
+      moved _ (own_move (Stand member) tt) candidacy_agrees (sends_to_others (after g (Stand member)) (act_of_candidacy n).node ask (λ receiver. ask_agrees))
 
-  waits_or_stands_bridged : (word : ℕ) → ActBridged shape g place (waits_or_stands word n)
-  waits_or_stands_bridged word =
-      cond_both (is_due n.volatile.quiet word n.durable.term) (asks_for_votes (as_candidate n)) (stays n) (ActBridged shape g place)
-      (λ due. stands_bridged) (λ early. unmoved_stays a)
+  waiting_bridged : (word : ℕ) → ActBridged shape g member (act_of_waiting word n)
+  waiting_bridged word =
+      cond_both (is_due n.volatile.quiet word n.durable.term) (act_of_election n) (stays n) (ActBridged shape g member)
+      (λ due. election_bridged) (λ early. unmoved_stays a)
 
-  waits_agrees : NodeAgrees shape g place (waits n)
-  waits_agrees = assumption a
+  waiting_agrees : NodeAgrees shape g member (waiting_node n)
+  waiting_agrees = assumption a
 
-  beats_agrees : NodeAgrees shape g place (beats n)
-  beats_agrees = assumption (a, All-cons (HeardAgrees g n.durable.term place) Beat n.volatile.heard tt a.heard)
+  beat_agrees : NodeAgrees shape g member (node_hearing Beat n)
+  beat_agrees = assumption (a, All-cons (HeardAgrees g n.durable.term member) Beat n.volatile.heard tt a.heard)
 
-ticks_as_bridged :
-    {shape : Parameters} {g : protocol.History} {place : ℕ} {n : Node} (role : Role) (word : ℕ) → NodeAgrees shape g place n →
-    ActBridged shape g place (ticks_as role word n)
-ticks_as_bridged Follower word a = waits_or_stands_bridged (waits_agrees a) word
-ticks_as_bridged Candidate word a = waits_or_stands_bridged (waits_agrees a) word
-ticks_as_bridged Preparing word a = unmoved_stays (beats_agrees a)
-ticks_as_bridged Leader word a = unmoved_stays (beats_agrees a)
+tick_as_bridged :
+    {shape : Shape} {g : protocol.History} {member : ℕ} {n : Node} (role : Role) (word : ℕ) → NodeAgrees shape g member n →
+    ActBridged shape g member (act_of_tick_as role word n)
+tick_as_bridged Follower word a = waiting_bridged (waiting_agrees a) word
+tick_as_bridged Candidate word a = waiting_bridged (waiting_agrees a) word
+tick_as_bridged Preparing word a = unmoved_stays (beat_agrees a)
+tick_as_bridged Leader word a = unmoved_stays (beat_agrees a)
 
-pub ticks_bridged :
-    {shape : Parameters} {g : protocol.History} {place : ℕ} {n : Node} (word : ℕ) → NodeAgrees shape g place n →
-    ActBridged shape g place (ticks word n)
-ticks_bridged {n = n} word a = ticks_as_bridged n.volatile.role word a
+pub tick_bridged :
+    {shape : Shape} {g : protocol.History} {member : ℕ} {n : Node} (word : ℕ) → NodeAgrees shape g member n →
+    ActBridged shape g member (act_of_tick word n)
+tick_bridged {n = n} word a = tick_as_bridged n.volatile.role word a

@@ -3,12 +3,14 @@ use Rattle.std.proofs.Common.{◌≡◌, ◌≢◌, ℕ, ◌<◌, ◌≤◌, le_
 use Rattle.std.specs.List.{All}
 use Rattle.std.proofs.lemmas.Bool.{cond_both, and_parts, or_cases, eqb-true, leb-true, true≢false, false_from_ne_true}
 use Rattle.std.proofs.lemmas.List.Elements.{All-cons, All-head, All-tail}
-use Rattle.craft_base.specs.Parameters.{Parameters, members_of, majority_of}
-use Rattle.world_model.specs.Knowledge as known
-use Rattle.entry_frames.specs.Outputs.{Role, Follower, Candidate, Preparing, Leader}
-use Rattle.world_model.specs.Nodes.{Heard, Beat, Voted, Node}
+use Rattle.craft_base.specs.Shape.{Shape, members_of, majority_of}
+use Rattle.craft_base.specs.Knowledge as known
+use Rattle.entry_frames.specs.declared.role.Role.{Role}
+use Rattle.entry_frames.specs.declared.role.Role.TheVariants.{Follower, Candidate, Preparing, Leader}
+use Rattle.craft_base.specs.Knowledge.{Heard, Told, Beat, From, Voted, Matched, Refused, Answered}
+use Rattle.world_model.specs.Nodes.{Node, node_hearing}
 use Rattle.world_model.specs.Rules.Acts.{stays}
-use Rattle.world_model.specs.Rules.VoteReply.{hears_vote, has_won, as_leader, leads_if_won, counts_reply_as, counts_reply}
+use Rattle.world_model.specs.Rules.VoteReply.{act_of_count, act_of_vote_reply, act_of_vote_reply_as, has_won, leading_node, vote_heard}
 use Rattle.protocol.specs.Counting.{put}
 use Rattle.protocol.specs.History as protocol
 use Rattle.protocol.specs.Words.{is_for, votes}
@@ -26,99 +28,102 @@ use Rattle.bridge.proofs.Steps.{moved, own_move, own_then, reached_grows, sends_
 
 -- a granted vote that was heard was cast, by another member
 heard_vote :
-    (h : protocol.History) (term me member : ℕ) (item : Heard) → HeardAgrees h term me item → known.is_vote_of member item ≡ true →
-    (member ≢ me) × (h.voted term member ≡ Some me)
-heard_vote h term me member Beat a e = absurd (true≢false (sym e))
-heard_vote h term me member (Voted sender granted) a e =
+    (h : protocol.History) (term me voter : ℕ) (item : Heard) → HeardAgrees h term me item → known.is_vote_of voter item ≡ true →
+    (voter ≢ me) × (h.voted term voter ≡ Some me)
+heard_vote h term me voter Beat a e = absurd (true≢false (sym e))
+heard_vote h term me voter (From sender last (Voted granted)) a e =
     let parts = and_parts granted _ e in
-    let same : sender ≡ member = eqb-true sender member parts.1 in
-    rw (← same) (a.apart, a.body parts.0)
+    let same : sender ≡ voter = eqb-true sender voter parts.1 in
+    rw (← same) (a.apart, a.body_agrees parts.0)
+heard_vote h term me voter (From sender last (Matched prev count mask)) a e = absurd (true≢false (sym e))
+heard_vote h term me voter (From sender last (Refused next)) a e = absurd (true≢false (sym e))
+heard_vote h term me voter (From sender last Answered) a e = absurd (true≢false (sym e))
 
 heard_votes :
-    (h : protocol.History) (term me member : ℕ) (heard : List Heard) → All (HeardAgrees h term me) heard →
-    known.granted_by member heard ≡ true → (member ≢ me) × (h.voted term member ≡ Some me)
-heard_votes h term me member [] a e = absurd (true≢false (sym e))
-heard_votes h term me member (item ∷ heard) a e = elim (or_cases (known.is_vote_of member item) _ e) [
-  | inl here ↦ heard_vote h term me member item (All-head (HeardAgrees h term me) item heard a) here
-  | inr there ↦ heard_votes h term me member heard (All-tail (HeardAgrees h term me) item heard a) there
+    (h : protocol.History) (term me voter : ℕ) (heard : List Heard) → All (HeardAgrees h term me) heard →
+    known.granted_by voter heard ≡ true → (voter ≢ me) × (h.voted term voter ≡ Some me)
+heard_votes h term me voter [] a e = absurd (true≢false (sym e))
+heard_votes h term me voter (item ∷ heard) a e = elim (or_cases (known.is_vote_of voter item) _ e) [
+  | inl here ↦ heard_vote h term me voter item (All-head (HeardAgrees h term me) item heard a) here
+  | inr there ↦ heard_votes h term me voter heard (All-tail (HeardAgrees h term me) item heard a) there
 ]
 
 -- a candidate's count of votes is at most the protocol's: each vote that it heard was cast, and its own is one more
 votes_counted :
-    (shape : Parameters) (g : protocol.History) (place term : ℕ) (heard : List Heard) → place < members_of shape →
-    g.voted term place ≡ Some place → All (HeardAgrees g term place) heard →
-    known.votes shape heard ≤ votes shape.faults g term place
-votes_counted shape g place term heard within own a =
-    let all = count_members (λ member. known.granted_by member heard) (members_of shape) in
+    (shape : Shape) (g : protocol.History) (member term : ℕ) (heard : List Heard) → member < members_of shape →
+    g.voted term member ≡ Some member → All (HeardAgrees g term member) heard →
+    known.votes shape heard ≤ votes shape.faults g term member
+votes_counted shape g member term heard within own a =
+    let all = count_members (λ voter. known.granted_by voter heard) (members_of shape) in
     let more =
-    count_one_more (λ member. known.granted_by member heard) (λ member. is_for place (g.voted term member)) (members_of shape) place
-    (λ member lt e. is_for_from place (g.voted term member) (heard_votes g term place member heard a e).1) within
-    (false_from_ne_true _ (λ e. (heard_votes g term place place heard a e).0 refl))
-    (is_for_from place (g.voted term place) own) in
+    count_one_more (λ voter. known.granted_by voter heard) (λ voter. is_for member (g.voted term voter)) (members_of shape) member
+    (λ voter lt e. is_for_from member (g.voted term voter) (heard_votes g term member voter heard a e).1) within
+    (false_from_ne_true _ (λ e. (heard_votes g term member member heard a e).0 refl))
+    (is_for_from member (g.voted term member) own) in
     omega (arith, all, more)
 
 -- the history in which the member has won, and began to lead with its log as it is
 abbrev led : protocol.History → ℕ → protocol.History
-led g place = after (after g (Win place)) (Begin place (g.log place))
+led g member = after (after g (Win member)) (Begin member (g.log member))
 
-led_moves : {F : ℕ} {g : protocol.History} {place : ℕ} → Allowed F g (Win place) → OwnMoves F place g (led g place)
-led_moves {F = F} {g = g} {place = place} allowed =
-    let begins : Allowed F (after g (Win place)) (Begin place (g.log place)) =
-    (put_same place protocol.Preparing g.role, inl (same_refl (g.log place), λ i le e. e)) in
-    own_then (own_move (Win place) allowed) (own_move (Begin place (g.log place)) begins)
+led_moves : {F : ℕ} {g : protocol.History} {member : ℕ} → Allowed F g (Win member) → OwnMoves F member g (led g member)
+led_moves {F = F} {g = g} {member = member} allowed =
+    let begins : Allowed F (after g (Win member)) (Begin member (g.log member)) =
+    (put_same member protocol.Preparing g.role, inl (same_refl (g.log member), λ i le e. e)) in
+    own_then (own_move (Win member) allowed) (own_move (Begin member (g.log member)) begins)
 
 module _
-    {shape : Parameters} {g : protocol.History} {place : ℕ} {n : Node} (reached : Reached shape.faults g) (a : NodeAgrees shape g place n)
+    {shape : Shape} {g : protocol.History} {member : ℕ} {n : Node} (reached : Reached shape.faults g) (a : NodeAgrees shape g member n)
   where
-    won_allowed : n.volatile.role ≡ Candidate → has_won n ≡ true → Allowed shape.faults g (Win place)
+    won_allowed : n.volatile.role ≡ Candidate → has_won n ≡ true → Allowed shape.faults g (Win member)
     won_allowed role won =
-        let stands : g.role place ≡ protocol.Candidate = a.role ∙ ap role_seen role in
-        let own : g.voted (g.term place) place ≡ Some place = ((votes_reached shape.faults g reached).standing place stands).0 in
-        let majority : majority_of shape ≤ known.votes shape n.volatile.heard = leb-true _ _ (rw (← a.group) won) in
-        let counted : known.votes shape n.volatile.heard ≤ votes shape.faults g n.durable.term place =
-        votes_counted shape g place n.durable.term n.volatile.heard a.within (rw (← a.term) own) a.heard in
+        let stands : g.role member ≡ protocol.Candidate = a.role ∙ ap role_seen role in
+        let own : g.voted (g.term member) member ≡ Some member = ((votes_reached shape.faults g reached).standing member stands).0 in
+        let majority : majority_of shape ≤ known.votes shape n.volatile.heard = leb-true _ _ (rw (← a.of_shape) won) in
+        let counted : known.votes shape n.volatile.heard ≤ votes shape.faults g n.durable.term member =
+        votes_counted shape g member n.durable.term n.volatile.heard a.within (rw (← a.term) own) a.heard in
         (stands, rw a.term (le_trans majority counted))
 
-    led_agrees : Grows g (led g place) → NodeAgrees shape (led g place) place (as_leader n)
+    led_agrees : Grows g (led g member) → NodeAgrees shape (led g member) member (leading_node n)
     led_agrees x = record {
-      group = a.group;
+      of_shape = a.of_shape;
       me = a.me;
       within = a.within;
       term = a.term;
       vote = a.vote;
-      log = put_same place (g.log place) g.log ∙ a.log;
+      log = put_same member (g.log member) g.log ∙ a.log;
       commit = a.commit;
-      role = put_same place protocol.Leading (put place protocol.Preparing g.role);
-      heard = all_heard_stays x n.durable.term place n.volatile.heard a.heard;
+      role = put_same member protocol.Leading (put member protocol.Preparing g.role);
+      heard = all_heard_stays x n.durable.term member n.volatile.heard a.heard;
     }
 
-    leads_bridged : Allowed shape.faults g (Win place) → ActBridged shape g place (stays (as_leader n))
-    leads_bridged allowed =
-        let moves : OwnMoves shape.faults place g (led g place) = led_moves allowed in
-        moved _ moves (led_agrees (reached_grows reached moves.run)) (sends_none (led g place))
+    leading_bridged : Allowed shape.faults g (Win member) → ActBridged shape g member (stays (leading_node n))
+    leading_bridged allowed =
+        let moves : OwnMoves shape.faults member g (led g member) = led_moves allowed in
+        moved _ moves (led_agrees (reached_grows reached moves.run)) (sends_none (led g member))
 
-    leads_if_won_bridged : n.volatile.role ≡ Candidate → ActBridged shape g place (leads_if_won n)
-    leads_if_won_bridged role =
-        cond_both (has_won n) (stays (as_leader n)) (stays n) (ActBridged shape g place)
-        (λ won. leads_bridged (won_allowed role won)) (λ waits. unmoved_stays a)
+    count_bridged : n.volatile.role ≡ Candidate → ActBridged shape g member (act_of_count n)
+    count_bridged role =
+        cond_both (has_won n) (stays (leading_node n)) (stays n) (ActBridged shape g member)
+        (λ won. leading_bridged (won_allowed role won)) (λ waits. unmoved_stays a)
 
-hears_agrees :
-    {shape : Parameters} {g : protocol.History} {place : ℕ} {n : Node} (sender : ℕ) (granted : Bool) → NodeAgrees shape g place n →
-    HeardAgrees g n.durable.term place (Voted sender granted) → NodeAgrees shape g place (hears_vote sender granted n)
-hears_agrees {g = g} {place = place} {n = n} sender granted a told =
-    assumption (a, All-cons (HeardAgrees g n.durable.term place) (Voted sender granted) n.volatile.heard told a.heard)
+hearing_agrees :
+    {shape : Shape} {g : protocol.History} {member : ℕ} {n : Node} (sender : ℕ) (granted : Bool) → NodeAgrees shape g member n →
+    HeardAgrees g n.durable.term member (vote_heard n sender granted) → NodeAgrees shape g member (node_hearing (vote_heard n sender granted) n)
+hearing_agrees {g = g} {member = member} {n = n} sender granted a told =
+    assumption (a, All-cons (HeardAgrees g n.durable.term member) (vote_heard n sender granted) n.volatile.heard told a.heard)
 
-counts_reply_as_bridged :
-    {shape : Parameters} {g : protocol.History} {place : ℕ} {n : Node} (role : Role) (sender : ℕ) (granted : Bool) →
-    Reached shape.faults g → NodeAgrees shape g place n → HeardAgrees g n.durable.term place (Voted sender granted) →
-    n.volatile.role ≡ role → ActBridged shape g place (counts_reply_as role n sender granted)
-counts_reply_as_bridged Follower sender granted reached a told e = unmoved_stays a
-counts_reply_as_bridged Candidate sender granted reached a told e = leads_if_won_bridged reached (hears_agrees sender granted a told) e
-counts_reply_as_bridged Preparing sender granted reached a told e = unmoved_stays (hears_agrees sender granted a told)
-counts_reply_as_bridged Leader sender granted reached a told e = unmoved_stays (hears_agrees sender granted a told)
+vote_reply_as_bridged :
+    {shape : Shape} {g : protocol.History} {member : ℕ} {n : Node} (role : Role) (sender : ℕ) (granted : Bool) →
+    Reached shape.faults g → NodeAgrees shape g member n → HeardAgrees g n.durable.term member (vote_heard n sender granted) →
+    n.volatile.role ≡ role → ActBridged shape g member (act_of_vote_reply_as role n sender granted)
+vote_reply_as_bridged Follower sender granted reached a told e = unmoved_stays a
+vote_reply_as_bridged Candidate sender granted reached a told e = count_bridged reached (hearing_agrees sender granted a told) e
+vote_reply_as_bridged Preparing sender granted reached a told e = unmoved_stays (hearing_agrees sender granted a told)
+vote_reply_as_bridged Leader sender granted reached a told e = unmoved_stays (hearing_agrees sender granted a told)
 
-pub counts_reply_bridged :
-    {shape : Parameters} {g : protocol.History} {place : ℕ} {n : Node} (sender : ℕ) (granted : Bool) →
-    Reached shape.faults g → NodeAgrees shape g place n → HeardAgrees g n.durable.term place (Voted sender granted) →
-    ActBridged shape g place (counts_reply n sender granted)
-counts_reply_bridged {n = n} sender granted reached a told = counts_reply_as_bridged n.volatile.role sender granted reached a told refl
+pub vote_reply_bridged :
+    {shape : Shape} {g : protocol.History} {member : ℕ} {n : Node} (sender : ℕ) (granted : Bool) →
+    Reached shape.faults g → NodeAgrees shape g member n → HeardAgrees g n.durable.term member (vote_heard n sender granted) →
+    ActBridged shape g member (act_of_vote_reply n sender granted)
+vote_reply_bridged {n = n} sender granted reached a told = vote_reply_as_bridged n.volatile.role sender granted reached a told refl

@@ -1,7 +1,7 @@
 //! The messages that a node sends.
 ghost use Rattle.std.specs.Prelude.{◌≡◌, ◌<◌, ◌++◌, ◌∷◌, [], OnOk};
-ghost use Rattle.craft_base.specs.Parameters.{members_of};
-ghost use Rattle.peer_frames.specs.declared.message.Peer.TheVariants.{Vote};
+ghost use Rattle.craft_base.specs.Shape.{members_of};
+ghost use Rattle.entry_frames.specs.declared.peer.Peer.TheVariants.{Vote};
 
 use crate::node::Node;
 use craft_base::{MemberId, OutOfMemory};

@@ -1,6 +1,6 @@
 //! Terms: a message of a higher term makes the node follow that term first; one of a lower term is refused or dropped.
 ghost use Rattle.std.specs.Prelude.{OnOk, ◌+◌};
-ghost use Rattle.peer_frames.specs.declared.message.Peer.TheVariants.{Refused};
+ghost use Rattle.entry_frames.specs.declared.peer.Peer.TheVariants.{Refused};
 ghost use Rattle.craft.specs.Says.{message_from};
 
 use crate::node::Node;
@@ -9,14 +9,13 @@ use craft_base::{MemberId, OutOfMemory};
 use peer_frames::{Message, Peer, Role};
 
 impl Node {
-    ghost use Rattle.craft.specs.Kept.{kept_body, Becomes, Acts};
+    ghost use Rattle.craft.specs.Kept.{Becomes, Acts};
     ghost use Rattle.std.specs.Prelude.{◌≡◌};
-    ghost use Rattle.entry_frames.specs.Messages as model;
-    ghost use Rattle.world_model.specs.Rules.Terms.{in_term, caught_up, refuses_stale};
+    ghost use Rattle.world_model.specs.Rules.Terms.{act_of_higher_term, act_of_term, act_of_lower_term};
 
     /// Follows a higher term: no vote is cast in it yet, and nothing was heard.
     fn enter_term(&mut self, term: u64)
-        ensures { Becomes (in_term term) self.old self.new }
+        ensures { Becomes (λ n. (act_of_higher_term term n).node) self.old self.new }
     {
         self.term = term;
         self.vote = None;
@@ -27,7 +26,7 @@ impl Node {
 
     /// Follows the term of a message where it is higher.
     pub fn catch_up(&mut self, term: u64)
-        ensures { (m : model.Message) → term ≡ m.term → Becomes (λ n. caught_up n m) self.old self.new }
+        ensures { Becomes (λ n. (act_of_term term n).node) self.old self.new }
     {
         if self.term < term {
             self.enter_term(term);
@@ -41,7 +40,7 @@ impl Node {
         body: &Peer,
         sends: &mut Vec<Message>,
     ) -> Result<(), OutOfMemory>
-        ensures { OnOk result ((m : model.Message) → sender ≡ m.sender → body.now ≡ kept_body m.body → Acts (λ n. refuses_stale n m) self.old self.new sends.old.items sends.new.items) }
+        ensures { OnOk result (Acts (λ n. act_of_lower_term n sender body.now) self.old self.new sends.old.items sends.new.items) }
     {
         match body {
             Peer::Vote { .. } => {

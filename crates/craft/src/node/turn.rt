@@ -1,7 +1,8 @@
 //! The turn: what a node is told, the rule that it calls for, and what the node tells.
-ghost use Rattle.std.specs.Prelude.{◌≡◌, ◌++◌, IfOk, OnOk, map};
+ghost use Rattle.std.specs.Prelude.{◌≡◌, ◌++◌, ℕ, IfOk, OnOk, map};
 ghost use Rattle.std.specs.Option.{option_to_list};
-ghost use Rattle.peer_frames.specs.declared.output.Output.TheVariants.{Send};
+ghost use Rattle.entry_frames.specs.declared.message.Message.TheVariants as messages;
+ghost use Rattle.entry_frames.specs.declared.output.Output.TheVariants.{Send};
 
 use crate::node::Node;
 use craft_base::{MemberId, OutOfMemory};
@@ -10,47 +11,46 @@ use std::alloc::Global;
 
 /// What a node is told.
 #[derive(Debug, Drop)]
-pub enum Input {
+pub enum Event {
     /// Time passes. The word chooses how long is long enough.
     Tick { word: u64 },
     /// A message comes.
-    Deliver(Message),
+    Frame(Message),
 }
 
 impl Node {
-    ghost use Rattle.craft.specs.Kept.{kept_node, kept_message, kept_body, Acts};
-    ghost use Rattle.craft.specs.Turns.{kept_input, kept_output, change_of};
-    ghost use Rattle.entry_frames.specs.Messages as model;
+    ghost use Rattle.craft.specs.Kept.{kept_node, Acts};
+    ghost use Rattle.craft.specs.Turns.{event_of, change_of};
     ghost use Rattle.world_model.specs.Nodes as nodes;
     ghost use Rattle.world_model.specs.Turn as turns;
 
-    /// Carries out the rule that the input calls for. What it tells comes in its order: its role, and then what it sends.
-    pub fn turn(&mut self, alloc: Global, input: &Input) -> Result<Vec<Output>, OutOfMemory>
-        ensures node { OnOk result ((i : turns.Input) (n : nodes.Node) → input.now ≡ kept_input i → self.old ≡ kept_node n → self.new ≡ kept_node (turns.turn i n).node) }
-        ensures outputs { IfOk result (λ outputs. (i : turns.Input) (n : nodes.Node) → input.now ≡ kept_input i → self.old ≡ kept_node n → outputs.items ≡ map kept_output (turns.turn i n).outputs) }
+    /// Carries out the rule that the event calls for. What it tells comes in its order: its role, and then what it sends.
+    pub fn turn(&mut self, alloc: Global, event: &Event) -> Result<Vec<Output>, OutOfMemory>
+        ensures node { OnOk result ((n : nodes.Node) → self.old ≡ kept_node n → self.new ≡ kept_node (turns.turn (event_of event.now) n).node) }
+        ensures outputs { IfOk result (λ outputs. (n : nodes.Node) → self.old ≡ kept_node n → outputs.items ≡ (turns.turn (event_of event.now) n).outputs) }
     {
         let role = self.role;
         let term = self.term;
         let mut sends = Vec::new(alloc);
-        self.act(input, &mut sends)?;
+        self.act(event, &mut sends)?;
         let outputs = tell(alloc, self.change_since(role, term), sends)?;
         Ok(outputs)
     }
 
-    /// Carries out the rule that the input calls for.
-    fn act(&mut self, input: &Input, sends: &mut Vec<Message>) -> Result<(), OutOfMemory>
-        ensures { OnOk result ((i : turns.Input) → input.now ≡ kept_input i → Acts (turns.acts i) self.old self.new sends.old.items sends.new.items) }
+    /// Carries out the rule that the event calls for.
+    fn act(&mut self, event: &Event, sends: &mut Vec<Message>) -> Result<(), OutOfMemory>
+        ensures { OnOk result (Acts (turns.act_of (event_of event.now)) self.old self.new sends.old.items sends.new.items) }
     {
-        match input {
-            Input::Tick { word } => self.tick(*word, sends)?,
-            Input::Deliver(message) => self.take(message, sends)?,
+        match event {
+            Event::Tick { word } => self.tick(*word, sends)?,
+            Event::Frame(message) => self.take(message, sends)?,
         }
         Ok(())
     }
 
-    /// Takes a message of another member; others aren't taken yet.
+    /// Takes a message of another member; of others nothing comes.
     fn take(&mut self, message: &Message, sends: &mut Vec<Message>) -> Result<(), OutOfMemory>
-        ensures { OnOk result ((m : model.Message) → message.now ≡ kept_message m → Acts (turns.takes m) self.old self.new sends.old.items sends.new.items) }
+        ensures { OnOk result (Acts (turns.act_of_message message.now) self.old self.new sends.old.items sends.new.items) }
     {
         match message {
             Message::Peer {
@@ -72,7 +72,7 @@ impl Node {
         body: &Peer,
         sends: &mut Vec<Message>,
     ) -> Result<(), OutOfMemory>
-        ensures { OnOk result ((m : model.Message) → sender ≡ m.sender → term ≡ m.term → body.now ≡ kept_body m.body → Acts (turns.takes m) self.old self.new sends.old.items sends.new.items) }
+        ensures { OnOk result ((receiver : ℕ) → Acts (turns.act_of_message (messages.Peer sender receiver term body.now)) self.old self.new sends.old.items sends.new.items) }
     {
         if term < self.term {
             self.refuse_stale(sender, body, sends)?;
@@ -90,14 +90,13 @@ impl Node {
         body: &Peer,
         sends: &mut Vec<Message>,
     ) -> Result<(), OutOfMemory>
-        ensures { OnOk result ((b : model.Body) → body.now ≡ kept_body b → Acts (λ n. turns.takes_body n sender b) self.old self.new sends.old.items sends.new.items) }
+        ensures { OnOk result (Acts (λ n. turns.act_of_peer n sender body.now) self.old self.new sends.old.items sends.new.items) }
     {
         match body {
             Peer::Vote { last_term, last } => {
                 self.consider_vote(sender, *last_term, *last, sends)?
             }
             Peer::VoteReply { granted } => self.count_reply(sender, *granted),
-            // The rules of these aren't built yet.
             Peer::Append { .. }
             | Peer::Matched { .. }
             | Peer::Refused { .. }

@@ -1,4 +1,4 @@
-//! Vote: a member votes once in a term, and only for a candidate whose log is at least as good as its own.
+//! Vote: a member votes once in a term, and only for a candidate whose log is at least as up to date as its own.
 ghost use Rattle.std.specs.Prelude.{OnOk};
 
 use crate::node::Node;
@@ -8,7 +8,7 @@ use peer_frames::{Message, Peer};
 
 impl Node {
     ghost use Rattle.craft.specs.Kept.{Becomes, Acts};
-    ghost use Rattle.world_model.specs.Rules.Vote.{with_vote, considers_vote};
+    ghost use Rattle.world_model.specs.Rules.Vote.{act_of_grant, act_of_vote_request};
 
     /// Answers a candidate of this term, and casts the vote for it where it is granted.
     pub fn consider_vote(
@@ -18,7 +18,7 @@ impl Node {
         their_last: u64,
         sends: &mut Vec<Message>,
     ) -> Result<(), OutOfMemory>
-        ensures { OnOk result (Acts (λ n. considers_vote n candidate their_last_term their_last) self.old self.new sends.old.items sends.new.items) }
+        ensures { OnOk result (Acts (λ n. act_of_vote_request n candidate their_last_term their_last) self.old self.new sends.old.items sends.new.items) }
     {
         let granted = vote_verdict(
             self.vote.map(|voted| voted.number()),
@@ -35,11 +35,13 @@ impl Node {
         Ok(())
     }
 
-    /// Casts the vote of this term, and has heard of an election.
+    /// Casts the vote of this term, unless it stands already, and has heard of an election.
     fn cast_vote(&mut self, candidate: MemberId)
-        ensures { Becomes (with_vote candidate) self.old self.new }
+        ensures { Becomes (λ n. (act_of_grant candidate n).node) self.old self.new }
     {
-        self.vote = Some(candidate);
+        if self.vote.is_none() {
+            self.vote = Some(candidate);
+        }
         self.quiet = 0;
     }
 }

@@ -8,11 +8,12 @@ use peer_frames::Role;
 impl Node {
     ghost use Rattle.craft.specs.Kept.{kept_node, Becomes};
     ghost use Rattle.world_model.specs.Nodes as nodes;
-    ghost use Rattle.world_model.specs.Rules.VoteReply.{hears_vote, has_won, as_leader, leads_if_won, counts_reply};
+    ghost use Rattle.world_model.specs.Nodes.{node_hearing};
+    ghost use Rattle.world_model.specs.Rules.VoteReply.{act_of_count, act_of_vote_reply, has_won, leading_node, vote_heard};
 
     /// Hears a reply of this term. It sends nothing.
     pub fn count_reply(&mut self, sender: MemberId, granted: bool)
-        ensures { Becomes (λ n. (counts_reply n sender granted).node) self.old self.new }
+        ensures { Becomes (λ n. (act_of_vote_reply n sender granted).node) self.old self.new }
     {
         match self.role {
             Role::Follower => {}
@@ -26,7 +27,7 @@ impl Node {
 
     /// Keeps who granted its vote.
     fn hear_vote(&mut self, sender: MemberId, granted: bool)
-        ensures { Becomes (hears_vote sender granted) self.old self.new }
+        ensures { Becomes (λ n. node_hearing (vote_heard n sender granted) n) self.old self.new }
     {
         if granted {
             self.voters.add(sender);
@@ -35,7 +36,7 @@ impl Node {
 
     /// Leads the term where it has won.
     fn lead_if_won(&mut self)
-        ensures { Becomes (λ n. (leads_if_won n).node) self.old self.new }
+        ensures { Becomes (λ n. (act_of_count n).node) self.old self.new }
     {
         if self.has_won() {
             self.become_leader();
@@ -52,7 +53,7 @@ impl Node {
 
     /// Leads its term.
     fn become_leader(&mut self)
-        ensures { Becomes as_leader self.old self.new }
+        ensures { Becomes leading_node self.old self.new }
     {
         self.role = Role::Leader;
         self.hint = Some(self.me);

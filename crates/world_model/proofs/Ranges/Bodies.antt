@@ -6,19 +6,19 @@ use Rattle.std.proofs.lemmas.List.Elements.{All-head, All-tail}
 use Rattle.craft_base.specs.declared.command.Entry.{Entry}
 use Rattle.entry_frames.specs.Formats.{U8, U64, Fits, FitsNumber, within}
 use Rattle.entry_frames.specs.Limits.{greatest, last_place}
-use Rattle.entry_frames.specs.Kinds.{VoteKind, VoteReplyKind, AppendReplyKind}
+use Rattle.entry_frames.specs.declared.peer.Peer.TheVariants as peers
+use Rattle.entry_frames.specs.declared.kind.PeerKind.TheVariants as peer_kinds
 use Rattle.entry_frames.specs.MessageFields.{body_fields, least_with, greatest_with}
-use Rattle.entry_frames.specs.Messages.{VoteRequest, VoteReply, Refused}
-use Rattle.world_model.specs.Logs.{last_index, last_term}
+use Rattle.entry_frames.specs.Logs.{last_index, last_term}
 use Rattle.world_model.specs.Ranges.{IsTerm, LogInRange}
 use Rattle.world_model.proofs.Frames.{fits_within}
 
-pub reply_fits : (need term : ℕ) (granted : Bool) → Fits (body_fields need term VoteReplyKind) (VoteReply granted)
+pub reply_fits : (need term : ℕ) (granted : Bool) → Fits (body_fields need term peer_kinds.VoteReply) (peers.VoteReply granted)
 reply_fits need term true = (fits_within U8 0 1 1 (omega arith) (omega arith) (omega arith), refl)
 reply_fits need term false = (fits_within U8 0 1 0 (omega arith) (omega arith) (omega arith), refl)
 
 -- the index after a commit index
-pub refusal_fits : (need term commit : ℕ) → commit ≤ last_place → Fits (body_fields need term AppendReplyKind) (Refused (commit + 1))
+pub refusal_fits : (need term commit : ℕ) → commit ≤ last_place → Fits (body_fields need term peer_kinds.AppendReply) (peers.Refused (commit + 1))
 refusal_fits need term commit low = (
   fits_within U8 0 1 0 (omega arith) (omega arith) (omega arith),
   (fits_within U64 1 (last_place + 1) (commit + 1) (omega (arith, low)) (omega arith) (omega (arith, low)), refl),
@@ -36,7 +36,7 @@ last_fits term last is some short =
     rw above (fits_within U64 1 last_place last (omega (arith, short)) some short)
 
 -- the end of a log, as a candidate shows it
-pub request_fits : (need term : ℕ) (log : List Entry) → LogInRange log → Fits (body_fields need term VoteKind) (VoteRequest (last_term log) (last_index log))
+pub request_fits : (need term : ℕ) (log : List Entry) → LogInRange log → Fits (body_fields need term peer_kinds.Vote) (peers.Vote (last_term log) (last_index log))
 request_fits need term [] r = (
   fits_within U64 0 greatest 0 (omega arith) (omega arith) (omega arith),
   (fits_within U64 0 0 0 (omega arith) (omega arith) (omega arith), refl),

@@ -1,42 +1,49 @@
 -- Terms: a node catches up with a term in range, or refuses in its own.
-use Rattle.std.proofs.Common.{◌<◌, ◌≤◌, nat_lt, arith}
+use Rattle.std.proofs.Common.{◌<◌, ◌≤◌, ℕ, nat_lt, arith}
 use Rattle.std.specs.List.{All}
 use Rattle.std.proofs.lemmas.Bool.{cond_both}
 use Rattle.std.proofs.lemmas.List.Elements.{All-nil}
-use Rattle.craft_base.specs.Parameters.{Parameters}
+use Rattle.craft_base.specs.Shape.{Shape}
 use Rattle.entry_frames.specs.Formats.{Fits}
-use Rattle.entry_frames.specs.Kinds.{AppendReplyKind}
 use Rattle.entry_frames.specs.MessageFields.{body_fields}
-use Rattle.entry_frames.specs.Messages.{Body, VoteRequest, VoteReply, AppendEntries, Matched, Refused, Ask, Answer, Message}
+use Rattle.entry_frames.specs.declared.kind.PeerKind.TheVariants as peer_kinds
+use Rattle.entry_frames.specs.declared.peer.Peer.{Peer}
+use Rattle.entry_frames.specs.declared.peer.Peer.TheVariants as peers
 use Rattle.world_model.specs.Nodes.{Node}
 use Rattle.world_model.specs.Ranges.{NodeInRange, HasSpelling}
-use Rattle.world_model.specs.Rules.Terms.{caught_up, in_term, refusal, refuses_stale, stale_replies}
-use Rattle.world_model.specs.Spelling.{IsGroup}
+use Rattle.world_model.specs.Rules.Acts.{stays}
+use Rattle.world_model.specs.Rules.Terms.{act_of_higher_term, act_of_lower_term, act_of_term, refusal, stale_replies}
+use Rattle.craft_base.specs.Shape.{IsShape}
 use Rattle.world_model.proofs.Frames.{Ends}
-use Rattle.world_model.proofs.Ranges.Acts.{ActInRange, says_once}
+use Rattle.world_model.proofs.Ranges.Acts.{ActInRange, one_message_fits, sending_in_range, stays_in_range}
 use Rattle.world_model.proofs.Ranges.Bodies.{refusal_fits, reply_fits}
 
-module _ {group : Parameters} (is : IsGroup group) {m : Message} (ends : Ends group m) {n : Node} (a : NodeInRange group m.receiver n) where
-  in_term_in_range : NodeInRange group m.receiver (in_term m.term n)
-  in_term_in_range = record { shape = a.shape; me = a.me; member = a.member; term = ends.term.1; vote = tt; log = a.log; commit = a.commit }
+module _ {shape : Shape} (is : IsShape shape) {from to at : ℕ} (ends : Ends shape from to at) {n : Node} (a : NodeInRange shape to n) where
+  higher_term_in_range : ActInRange shape to (act_of_higher_term at n)
+  higher_term_in_range = record {
+    node = record { of_shape = a.of_shape; me = a.me; is_member = a.is_member; term = ends.term.1; log = a.log; commit = a.commit };
+    sends = All-nil (HasSpelling shape);
+  }
 
-  pub caught_up_in_range : NodeInRange group m.receiver (caught_up n m)
-  caught_up_in_range =
-      cond_both (nat_lt n.durable.term m.term) (in_term m.term n) n (NodeInRange group m.receiver) (λ higher. in_term_in_range) (λ same. a)
+  pub term_in_range : ActInRange shape to (act_of_term at n)
+  term_in_range =
+      cond_both (nat_lt n.durable.term at) (act_of_higher_term at n) (stays n) (ActInRange shape to)
+      (λ higher. higher_term_in_range) (λ same. stays_in_range a)
 
   module _ (begun : 1 ≤ n.durable.term) where
-    refusal_in_range : Fits (body_fields group.need n.durable.term AppendReplyKind) (refusal n)
-    refusal_in_range = refusal_fits group.need n.durable.term n.durable.commit (omega (arith, a.commit, a.log.short))
+    refusal_in_range : Fits (body_fields shape.need n.durable.term peer_kinds.AppendReply) (refusal n)
+    refusal_in_range = refusal_fits shape.need n.durable.term n.durable.commit (omega (arith, a.commit, a.log.short))
 
-    stale_replies_fit : (body : Body) → All (HasSpelling group) (stale_replies n m.sender body)
-    stale_replies_fit (VoteRequest last_term last) =
-        says_once is a begun _ m.sender ends.sender ends.apart (reply_fits group.need n.durable.term _)
-    stale_replies_fit (VoteReply granted) = All-nil (HasSpelling group)
-    stale_replies_fit (AppendEntries prev prev_term commit entries) = says_once is a begun (refusal n) m.sender ends.sender ends.apart refusal_in_range
-    stale_replies_fit (Matched prev count mask) = All-nil (HasSpelling group)
-    stale_replies_fit (Refused next) = All-nil (HasSpelling group)
-    stale_replies_fit (Ask start) = says_once is a begun (refusal n) m.sender ends.sender ends.apart refusal_in_range
-    stale_replies_fit (Answer start last slots) = All-nil (HasSpelling group)
+    stale_replies_fit : (body : Peer) → All (HasSpelling shape) (stale_replies n from body)
+    stale_replies_fit (peers.Vote last_term last) =
+        one_message_fits is a begun _ from ends.sender ends.apart (reply_fits shape.need n.durable.term _)
+    stale_replies_fit (peers.Append prev prev_term commit entries) = one_message_fits is a begun (refusal n) from ends.sender ends.apart refusal_in_range
+    stale_replies_fit (peers.Ask start) = one_message_fits is a begun (refusal n) from ends.sender ends.apart refusal_in_range
+    stale_replies_fit (peers.VoteReply granted) = All-nil (HasSpelling shape)
+    stale_replies_fit (peers.Matched prev count mask) = All-nil (HasSpelling shape)
+    stale_replies_fit (peers.Refused next) = All-nil (HasSpelling shape)
+    stale_replies_fit (peers.Answer start last slots) = All-nil (HasSpelling shape)
 
-  pub refuses_stale_in_range : m.term < n.durable.term → ActInRange group m.receiver (refuses_stale n m)
-  refuses_stale_in_range lower = record { node = a; sends = stale_replies_fit (omega (arith, lower)) m.body }
+  pub lower_term_in_range : (body : Peer) → at < n.durable.term → ActInRange shape to (act_of_lower_term n from body)
+  lower_term_in_range body lower =
+      sending_in_range (stale_replies n from body) (stays n) (stale_replies_fit (omega (arith, lower)) body) (stays_in_range a)

@@ -1,33 +1,40 @@
 -- Vote: a vote goes to the member that asked for it, and it is told.
-use Rattle.std.proofs.Common.{◌≢◌, ℕ, ◌≤◌, true, false, [], ◌∷◌}
+use Rattle.std.proofs.Common.{◌≢◌, ℕ, ◌≤◌, true, false, Option, None, Some, [], ◌∷◌}
 use Rattle.std.proofs.lemmas.Bool.{cond_both}
-use Rattle.craft_base.specs.Parameters.{Parameters}
-use Rattle.entry_frames.specs.Messages.{VoteReply}
+use Rattle.std.proofs.lemmas.List.Elements.{All-nil}
+use Rattle.craft_base.specs.Shape.{Shape}
+use Rattle.entry_frames.specs.declared.peer.Peer.TheVariants as peers
 use Rattle.world_model.specs.Nodes.{Node}
-use Rattle.world_model.specs.Ranges.{IsMember, NodeInRange}
-use Rattle.world_model.specs.Rules.Acts.{says}
-use Rattle.world_model.specs.Rules.Vote.{considers_vote, grants, with_vote}
-use Rattle.world_model.specs.Spelling.{IsGroup}
-use Rattle.world_model.proofs.Ranges.Acts.{ActInRange, says_once}
+use Rattle.world_model.specs.Ranges.{HasSpelling, IsMember, NodeInRange}
+use Rattle.world_model.specs.Rules.Acts.{keeping, message_of, stays}
+use Rattle.world_model.specs.Rules.Vote.{act_of_grant, act_of_vote_from, act_of_vote_refusal, act_of_vote_request, is_grantor}
+use Rattle.craft_base.specs.Shape.{IsShape}
+use Rattle.world_model.proofs.Ranges.Acts.{ActInRange, keeping_in_range, one_message_fits, sending_in_range, stays_in_range}
 use Rattle.world_model.proofs.Ranges.Bodies.{reply_fits}
 
 module _
-    {group : Parameters} (is : IsGroup group) {place : ℕ} {n : Node} (a : NodeInRange group place n) (begun : 1 ≤ n.durable.term)
-    (candidate : ℕ) (member : IsMember group candidate) (apart : candidate ≢ place) where
-  with_vote_in_range : NodeInRange group place (with_vote candidate n)
-  with_vote_in_range = record { shape = a.shape; me = a.me; member = a.member; term = a.term; vote = member; log = a.log; commit = a.commit }
+    {shape : Shape} (is : IsShape shape) {member : ℕ} {n : Node} (a : NodeInRange shape member n) (begun : 1 ≤ n.durable.term)
+    (candidate : ℕ) (is_member : IsMember shape candidate) (apart : candidate ≢ member) where
+  vote_from_in_range : (vote : Option ℕ) → ActInRange shape member (act_of_vote_from vote candidate n)
+  vote_from_in_range None = record {
+    node = record { of_shape = a.of_shape; me = a.me; is_member = a.is_member; term = a.term; log = a.log; commit = a.commit };
+    sends = All-nil (HasSpelling shape);
+  }
+  vote_from_in_range (Some voted) = stays_in_range a
 
-  pub considers_vote_in_range : (last_term last : ℕ) → ActInRange group place (considers_vote n candidate last_term last)
-  considers_vote_in_range last_term last =
-      cond_both (grants n candidate last_term last)
-      (record { node = with_vote candidate n; sends = says n (VoteReply true) candidate ∷ [] })
-      (record { node = n; sends = says n (VoteReply false) candidate ∷ [] })
-      (ActInRange group place)
-      (λ granted. record {
-        node = with_vote_in_range;
-        sends = says_once is a begun (VoteReply true) candidate member apart (reply_fits group.need n.durable.term true);
-      })
-      (λ refused. record {
-        node = a;
-        sends = says_once is a begun (VoteReply false) candidate member apart (reply_fits group.need n.durable.term false);
-      })
+  grant_in_range : ActInRange shape member (act_of_grant candidate n)
+  grant_in_range =
+      sending_in_range (message_of n (peers.VoteReply true) candidate ∷ [])
+      (keeping (record n.volatile { quiet = 0 }) (act_of_vote_from n.durable.vote candidate n))
+      (one_message_fits is a begun (peers.VoteReply true) candidate is_member apart (reply_fits shape.need n.durable.term true))
+      (keeping_in_range (record n.volatile { quiet = 0 }) (act_of_vote_from n.durable.vote candidate n) (vote_from_in_range n.durable.vote))
+
+  vote_refusal_in_range : ActInRange shape member (act_of_vote_refusal candidate n)
+  vote_refusal_in_range =
+      sending_in_range (message_of n (peers.VoteReply false) candidate ∷ []) (stays n)
+      (one_message_fits is a begun (peers.VoteReply false) candidate is_member apart (reply_fits shape.need n.durable.term false)) (stays_in_range a)
+
+  pub vote_request_in_range : (last_term last : ℕ) → ActInRange shape member (act_of_vote_request n candidate last_term last)
+  vote_request_in_range last_term last =
+      cond_both (is_grantor n candidate last_term last) (act_of_grant candidate n) (act_of_vote_refusal candidate n) (ActInRange shape member)
+      (λ granted. grant_in_range) (λ refused. vote_refusal_in_range)

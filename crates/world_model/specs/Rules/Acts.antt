@@ -1,25 +1,54 @@
--- What a rule makes of a node.
-use Rattle.std.specs.Prelude.{ℕ, List, [], map, filter, not, ◌==◌}
-use Rattle.entry_frames.specs.Messages.{Body, Message}
-use Rattle.world_model.specs.Knowledge.{members}
-use Rattle.world_model.specs.Nodes.{Node}
+-- What a rule makes of a node. What outlives a crash changes by records alone: the journal keeps them, and after a crash they are
+-- all that is left of a turn.
+use Rattle.std.specs.Prelude.{◌≡◌, ℕ, List, [], ◌∷◌, ◌++◌, map, filter, not, ◌==◌}
+use Rattle.entry_frames.specs.Durable.{applied, after}
+use Rattle.entry_frames.specs.Records.{Record}
+use Rattle.entry_frames.specs.declared.message.Message.{Message}
+use Rattle.entry_frames.specs.declared.message.Message.TheVariants as messages
+use Rattle.entry_frames.specs.declared.peer.Peer.{Peer}
+use Rattle.craft_base.specs.Knowledge.{members}
+use Rattle.world_model.specs.Nodes.{Node, Volatile}
 
 pub record Act : Type 0 where
   pub node : Node
+  pub records : List Record
   pub sends : List Message
 
--- the node as it is, and nothing sent
+-- the node as it is, nothing recorded and nothing sent
 abbrev pub stays : Node → Act
-stays n = record { node = n; sends = [] }
+stays n = record { node = n; records = []; sends = [] }
+
+-- one record more, applied
+abbrev pub recording : Record → Act → Act
+recording r act =
+    record act { node = record act.node { durable = applied act.node.durable r }; records = act.records ++ r ∷ [] }
+
+-- that as what a crash loses
+abbrev pub keeping : Volatile → Act → Act
+keeping volatile act = record act { node = record act.node { volatile = volatile } }
+
+-- these messages more
+abbrev pub sending : List Message → Act → Act
+sending sends act = record act { sends = act.sends ++ sends }
+
+-- an act, and then that of a rule on what it leaves
+abbrev pub followed_by : Act → (Node → Act) → Act
+followed_by act rule =
+    let next = rule act.node in
+    record { node = next.node; records = act.records ++ next.records; sends = act.sends ++ next.sends }
+
+-- its records, applied in order, leave what outlives a crash of its node
+abbrev pub IsRecorded : Node → Act → Type 0
+IsRecorded n act = after n.durable act.records ≡ act.node.durable
 
 -- a message of this node, in its term
-abbrev pub says : Node → Body → ℕ → Message
-says n body receiver = record { sender = n.me; receiver = receiver; term = n.durable.term; body = body }
+abbrev pub message_of : Node → Peer → ℕ → Message
+message_of n body receiver = messages.Peer n.me receiver n.durable.term body
 
 -- all members but the node, in order
 abbrev pub others : Node → List ℕ
-others n = filter (λ member. not (member == n.me)) (members n.group)
+others n = filter (λ member. not (member == n.me)) (members n.shape)
 
 -- the same message to all others
-abbrev pub says_to_others : Node → Body → List Message
-says_to_others n body = map (says n body) (others n)
+abbrev pub messages_to_others : Node → Peer → List Message
+messages_to_others n body = map (message_of n body) (others n)

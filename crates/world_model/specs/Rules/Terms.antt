@@ -1,32 +1,32 @@
 -- Terms: a message of a lower term is refused or dropped; one of a higher term makes the node follow that term first.
 use Rattle.std.specs.Prelude.{ℕ, ◌+◌, List, [], ◌∷◌, None, false, if◌then◌else◌, nat_lt}
-use Rattle.entry_frames.specs.Messages.{Body, VoteRequest, VoteReply, AppendEntries, Refused, Ask, Message}
-use Rattle.entry_frames.specs.Outputs.{Follower}
+use Rattle.entry_frames.specs.Records.{Term}
+use Rattle.entry_frames.specs.declared.message.Message.{Message}
+use Rattle.entry_frames.specs.declared.peer.Peer.{Peer}
+use Rattle.entry_frames.specs.declared.peer.Peer.TheVariants as peers
+use Rattle.entry_frames.specs.declared.role.Role.TheVariants.{Follower}
 use Rattle.world_model.specs.Nodes.{Node}
-use Rattle.world_model.specs.Rules.Acts.{Act, says}
+use Rattle.world_model.specs.Rules.Acts.{Act, stays, recording, keeping, sending, message_of}
 
--- the node in a higher term: a follower that has cast no vote and has heard nothing. Its quiet time goes on.
-abbrev pub in_term : ℕ → Node → Node
-in_term term n =
-    record n {
-      durable = record n.durable { term = term; vote = None };
-      volatile = record n.volatile { role = Follower; hint = None; heard = [] };
-    }
+-- a higher term: the node is a follower in it, has cast no vote and has heard nothing. Its quiet time goes on.
+abbrev pub act_of_higher_term : ℕ → Node → Act
+act_of_higher_term term n =
+    keeping (record n.volatile { role = Follower; hint = None; heard = [] }) (recording (Term term None) (stays n))
 
--- the node in the term of a message that isn't of a lower term
-abbrev pub caught_up : Node → Message → Node
-caught_up n m = if nat_lt n.durable.term m.term then in_term m.term n else n
+-- the term of a message that isn't of a lower term
+abbrev pub act_of_term : ℕ → Node → Act
+act_of_term term n = if nat_lt n.durable.term term then act_of_higher_term term n else stays n
 
 -- what a leader is told that can't go on here: the index from which it may
-abbrev pub refusal : Node → Body
-refusal n = Refused (n.durable.commit + 1)
+abbrev pub refusal : Node → Peer
+refusal n = peers.Refused (n.durable.commit + 1)
 
 -- a request of a lower term is refused in the present term; a reply of a lower term is dropped
-abbrev pub stale_replies : Node → ℕ → Body → List Message
-stale_replies n sender (VoteRequest last_term last) = says n (VoteReply false) sender ∷ []
-stale_replies n sender (AppendEntries prev prev_term commit entries) = says n (refusal n) sender ∷ []
-stale_replies n sender (Ask start) = says n (refusal n) sender ∷ []
+abbrev pub stale_replies : Node → ℕ → Peer → List Message
+stale_replies n sender (peers.Vote last_term last) = message_of n (peers.VoteReply false) sender ∷ []
+stale_replies n sender (peers.Append prev prev_term commit entries) = message_of n (refusal n) sender ∷ []
+stale_replies n sender (peers.Ask start) = message_of n (refusal n) sender ∷ []
 stale_replies n sender _ = []
 
-abbrev pub refuses_stale : Node → Message → Act
-refuses_stale n m = record { node = n; sends = stale_replies n m.sender m.body }
+abbrev pub act_of_lower_term : Node → ℕ → Peer → Act
+act_of_lower_term n sender body = sending (stale_replies n sender body) (stays n)

@@ -1,46 +1,46 @@
 -- Tick: a follower or a candidate that has heard nothing for long enough stands for election; a node that has won counts a beat.
-use Rattle.std.specs.Prelude.{ℕ, ◌+◌, ◌%◌, min, [], ◌∷◌, None, Some, Bool, ◌&&◌, if◌then◌else◌, nat_le, nat_lt}
+use Rattle.std.specs.Prelude.{ℕ, ◌+◌, ◌%◌, min, List, [], None, Some, Bool, ◌&&◌, if◌then◌else◌, nat_le, nat_lt}
 use Rattle.entry_frames.specs.Limits.{greatest}
-use Rattle.entry_frames.specs.Messages.{VoteRequest}
-use Rattle.entry_frames.specs.Outputs.{Role, Follower, Candidate, Preparing, Leader}
-use Rattle.world_model.specs.Logs.{last_index, last_term}
-use Rattle.world_model.specs.Nodes.{Beat, Node}
-use Rattle.world_model.specs.Rules.Acts.{Act, stays, says_to_others}
+use Rattle.entry_frames.specs.Logs.{last_index, last_term}
+use Rattle.entry_frames.specs.Records.{Term}
+use Rattle.entry_frames.specs.declared.message.Message.{Message}
+use Rattle.entry_frames.specs.declared.peer.Peer.TheVariants as peers
+use Rattle.entry_frames.specs.declared.role.Role.{Role}
+use Rattle.entry_frames.specs.declared.role.Role.TheVariants.{Follower, Candidate, Preparing, Leader}
+use Rattle.craft_base.specs.Knowledge.{Beat}
+use Rattle.world_model.specs.Nodes.{Node, node_hearing}
+use Rattle.world_model.specs.Rules.Acts.{Act, stays, recording, keeping, sending, messages_to_others}
 
 -- whether that many quiet ticks are enough, by a word that the clock chooses, and a higher term is left
 abbrev pub is_due : ℕ → ℕ → ℕ → Bool
 is_due quiet word term = nat_le (3 + word % 8) quiet && nat_lt term greatest
 
--- one more quiet tick; they are counted up to 100
-abbrev pub waits : Node → Node
-waits n = record n { volatile = record n.volatile { quiet = min (n.volatile.quiet + 1) 100 } }
+-- the node one quiet tick later; they are counted up to 100
+abbrev pub waiting_node : Node → Node
+waiting_node n = record n { volatile = record n.volatile { quiet = min (n.volatile.quiet + 1) 100 } }
 
--- the node as a candidate in the next term, with its own vote
-abbrev pub as_candidate : Node → Node
-as_candidate n =
-    record n {
-      durable = record n.durable { term = n.durable.term + 1; vote = Some n.me };
-      volatile = record { role = Candidate; quiet = 0; hint = None; heard = [] };
-    }
+-- a candidacy in the next term, with the node's own vote
+abbrev pub act_of_candidacy : Node → Act
+act_of_candidacy n =
+    keeping (record { role = Candidate; quiet = 0; hint = None; heard = [] }) (recording (Term (n.durable.term + 1) (Some n.me)) (stays n))
 
 -- a candidate asks all others for their vote, and shows the end of its log
-abbrev pub asks_for_votes : Node → Act
-asks_for_votes n =
-    record { node = n; sends = says_to_others n (VoteRequest (last_term n.durable.log) (last_index n.durable.log)) }
+abbrev pub vote_requests : Node → List Message
+vote_requests n = messages_to_others n (peers.Vote (last_term n.durable.log) (last_index n.durable.log))
+
+abbrev pub act_of_election : Node → Act
+act_of_election n = sending (vote_requests (act_of_candidacy n).node) (act_of_candidacy n)
 
 -- a node that hasn't won stands for election where it is due
-abbrev pub waits_or_stands : ℕ → Node → Act
-waits_or_stands word n = if is_due n.volatile.quiet word n.durable.term then asks_for_votes (as_candidate n) else stays n
+abbrev pub act_of_waiting : ℕ → Node → Act
+act_of_waiting word n = if is_due n.volatile.quiet word n.durable.term then act_of_election n else stays n
 
+abbrev pub act_of_tick_as : Role → ℕ → Node → Act
+act_of_tick_as Follower word n = act_of_waiting word (waiting_node n)
+act_of_tick_as Candidate word n = act_of_waiting word (waiting_node n)
 -- a node that has won counts a beat
-abbrev pub beats : Node → Node
-beats n = record n { volatile = record n.volatile { heard = Beat ∷ n.volatile.heard } }
+act_of_tick_as Preparing word n = stays (node_hearing Beat n)
+act_of_tick_as Leader word n = stays (node_hearing Beat n)
 
-abbrev pub ticks_as : Role → ℕ → Node → Act
-ticks_as Follower word n = waits_or_stands word (waits n)
-ticks_as Candidate word n = waits_or_stands word (waits n)
-ticks_as Preparing word n = stays (beats n)
-ticks_as Leader word n = stays (beats n)
-
-abbrev pub ticks : ℕ → Node → Act
-ticks word n = ticks_as n.volatile.role word n
+abbrev pub act_of_tick : ℕ → Node → Act
+act_of_tick word n = act_of_tick_as n.volatile.role word n

@@ -1,33 +1,35 @@
 -- VoteReply: a candidate that has the votes of more than half of the members leads.
-use Rattle.std.specs.Prelude.{ℕ, ◌∷◌, Some, Bool, if◌then◌else◌, nat_le}
-use Rattle.craft_base.specs.Parameters.{majority_of}
-use Rattle.entry_frames.specs.Outputs.{Role, Follower, Candidate, Preparing, Leader}
-use Rattle.world_model.specs.Knowledge.{votes}
-use Rattle.world_model.specs.Nodes.{Voted, Node}
+use Rattle.std.specs.Prelude.{ℕ, Some, Bool, if◌then◌else◌, nat_le}
+use Rattle.craft_base.specs.Shape.{majority_of}
+use Rattle.entry_frames.specs.Logs.{last_index}
+use Rattle.entry_frames.specs.declared.role.Role.{Role}
+use Rattle.entry_frames.specs.declared.role.Role.TheVariants.{Follower, Candidate, Preparing, Leader}
+use Rattle.craft_base.specs.Knowledge.{Heard, From, Voted, votes}
+use Rattle.world_model.specs.Nodes.{Node, node_hearing}
 use Rattle.world_model.specs.Rules.Acts.{Act, stays}
 
--- the node with one more reply heard
-abbrev pub hears_vote : ℕ → Bool → Node → Node
-hears_vote sender granted n = record n { volatile = record n.volatile { heard = Voted sender granted ∷ n.volatile.heard } }
+-- a reply as it is heard: with the last index of the node's log
+abbrev pub vote_heard : Node → ℕ → Bool → Heard
+vote_heard n sender granted = From sender (last_index n.durable.log) (Voted granted)
 
 -- whether more than half of the members have granted their vote
 abbrev pub has_won : Node → Bool
-has_won n = nat_le (majority_of n.group) (votes n.group n.volatile.heard)
+has_won n = nat_le (majority_of n.shape) (votes n.shape n.volatile.heard)
 
 -- the node as the leader of its term
-abbrev pub as_leader : Node → Node
-as_leader n = record n { volatile = record n.volatile { role = Leader; hint = Some n.me } }
+abbrev pub leading_node : Node → Node
+leading_node n = record n { volatile = record n.volatile { role = Leader; hint = Some n.me } }
 
 -- a candidate that has won leads
-abbrev pub leads_if_won : Node → Act
-leads_if_won n = if has_won n then stays (as_leader n) else stays n
+abbrev pub act_of_count : Node → Act
+act_of_count n = if has_won n then stays (leading_node n) else stays n
 
+abbrev pub act_of_vote_reply_as : Role → Node → ℕ → Bool → Act
+act_of_vote_reply_as Follower n sender granted = stays n
+act_of_vote_reply_as Candidate n sender granted = act_of_count (node_hearing (vote_heard n sender granted) n)
 -- a node that has won only hears it
-abbrev pub counts_reply_as : Role → Node → ℕ → Bool → Act
-counts_reply_as Follower n sender granted = stays n
-counts_reply_as Candidate n sender granted = leads_if_won (hears_vote sender granted n)
-counts_reply_as Preparing n sender granted = stays (hears_vote sender granted n)
-counts_reply_as Leader n sender granted = stays (hears_vote sender granted n)
+act_of_vote_reply_as Preparing n sender granted = stays (node_hearing (vote_heard n sender granted) n)
+act_of_vote_reply_as Leader n sender granted = stays (node_hearing (vote_heard n sender granted) n)
 
-abbrev pub counts_reply : Node → ℕ → Bool → Act
-counts_reply n sender granted = counts_reply_as n.volatile.role n sender granted
+abbrev pub act_of_vote_reply : Node → ℕ → Bool → Act
+act_of_vote_reply n sender granted = act_of_vote_reply_as n.volatile.role n sender granted

@@ -1,7 +1,7 @@
 use Rattle.std.proofs.Common.{◌∙◌, refl, ap, sym, subst}
 use Rattle.world_model.specs.Schedule as schedule
 use Rattle.line_input.specs.Lines.{TakesLine}
-use Rattle.craft.proofs.Reading.{broken_line, bad_line, event_line, event_found}
+use Rattle.craft.proofs.Reading.{broken_line, bad_line, event_line}
 use Rattle.world_model.proofs.Inputs.{good_line}
 use Rattle.craft.proofs.replay.next_event.Goals as goal
 
@@ -14,13 +14,9 @@ returns-in-Broken-clause-failed g c = (
 
 pub returns-in-Ok-clause-read : goal.returns-in-Ok-clause-read
 returns-in-Ok-clause-read g c =
-    let found = event_found (schedule.event_of c.args.shape.now c.deref.result.now) c.in-Ok.asked c.in-Ok.ensures.good in (
-      found.0,
-      found.2,
-      event_line c.args.shape.now c.args.number (g.S.Source.left c.args.src.now) (g.S.Source.left c.read_line.new.src) c.read_line.new.line.items found.0
-          (subst (TakesLine (g.S.Source.left c.args.src.now) (g.S.Source.left c.read_line.new.src) c.read_line.new.line.items) c.in-LineFeed.is c.in_ok-read_line.ensures.taken)
-          c.requires (ap (schedule.event_of c.args.shape.now) (sym c.deref.ensures.value) ∙ found.1),
-    )
+    event_line c.args.shape.now c.args.number (g.S.Source.left c.args.src.now) (g.S.Source.left c.read_line.new.src) c.read_line.new.line.items c.in-Ok.asked
+    (subst (TakesLine (g.S.Source.left c.args.src.now) (g.S.Source.left c.read_line.new.src) c.read_line.new.line.items) c.in-LineFeed.is c.in_ok-read_line.ensures.taken)
+    c.requires (ap (schedule.line_in c.args.shape.now) (sym c.deref.ensures.value) ∙ sym c.in-Ok.ensures.good)
 
 pub returns-in-Err-Bad-clause-failed : goal.returns-in-Err-Bad-clause-failed
 returns-in-Err-Bad-clause-failed g c =
@@ -28,5 +24,5 @@ returns-in-Err-Bad-clause-failed g c =
       refl,
       bad_line c.args.shape.now c.args.number (g.S.Source.left c.args.src.now) (g.S.Source.left c.read_line.new.src) c.read_line.new.line.items taken
           (good_line c.args.shape.now c.args.number c.read_line.new.line.items taken.2 c.requires
-          ∙ ap (schedule.event_of c.args.shape.now) (sym c.deref.ensures.value) ∙ c.in-Err-Bad.ensures.bad c.in-Err-Bad.field-0-is),
+          ∙ ap (schedule.line_in c.args.shape.now) (sym c.deref.ensures.value) ∙ c.in-Err-Bad.ensures.bad c.in-Err-Bad.field-0-is),
     )

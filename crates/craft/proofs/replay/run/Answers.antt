@@ -13,9 +13,9 @@ loop-number-preserved g c =
       progress = goes_on c.args.shape.now c.loop-number.number c.loop-number.world c.print_event.new.world
           (g.S.Source.left c.args.src.now) (g.S.Source.left c.loop-number.src) (g.S.Source.left c.next_event.new.src)
           (g.O.Sink.taken c.args.out.now) (g.O.Sink.taken c.loop-number.out) (g.O.Sink.taken c.print_event.new.out)
-          p read.0 read.2
-          (c.in_ok-print_event-in-Some.ensures.world read.0 (model.run c.args.shape.now p.events) read.1 p.reached)
-          (c.in_ok-print_event-in-Some.ensures.text read.0 (model.run c.args.shape.now p.events) read.1 p.reached);
+          p c.in-Some.asked read
+          (c.in_ok-print_event-in-Some.ensures.world (model.run c.args.shape.now p.events) p.reached)
+          (c.in_ok-print_event-in-Some.ensures.text (model.run c.args.shape.now p.events) p.reached);
       later_source = omega (arith, c.loop-number.invariant.later_source, c.in_ok-next_event.ensures.later);
       later_sink = omega (arith, c.loop-number.invariant.later_sink, c.in_ok-print_event-in-Some.ensures.later);
     }

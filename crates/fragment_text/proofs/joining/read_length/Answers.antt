@@ -11,15 +11,15 @@ returns-in-Some-clause-read g c =
     (subst (TakesLine (g.S.Source.left c.args.src.now) (g.S.Source.left c.read_line.new.src) c.read_line.new.line.items) c.in-LineFeed.is c.in_ok-read_line.ensures.taken) told
 
 pub returns-in-LineFeed-clause-failed : goal.returns-in-LineFeed-clause-failed
-returns-in-LineFeed-clause-failed g c = λ group.
+returns-in-LineFeed-clause-failed g c = λ shape.
     let told : length_of_words (words_of c.read_line.new.line.items) ≡ None = cc (c.in-None.ensures, c.in_ok-words-in-LineFeed.ensures, c.deref.ensures.value, c.deref-in-LineFeed.ensures.value) in
-    other_first group (g.S.Source.left c.args.src.now) (g.S.Source.left c.read_line.new.src) c.read_line.new.line.items
+    other_first shape (g.S.Source.left c.args.src.now) (g.S.Source.left c.read_line.new.src) c.read_line.new.line.items
     (subst (TakesLine (g.S.Source.left c.args.src.now) (g.S.Source.left c.read_line.new.src) c.read_line.new.line.items) c.in-LineFeed.is c.in_ok-read_line.ensures.taken) told
 
 pub returns : goal.returns
 returns g c = record {
   read = tt;
   limit = tt;
-  failed = λ group. no_length group (g.S.Source.left c.args.src.now) (g.S.Source.left c.read_line.new.src) c.read_line.new.line.items c.in_ok-read_line.field-0 c.in-End.is c.in_ok-read_line.ensures.taken;
+  failed = λ shape. no_length shape (g.S.Source.left c.args.src.now) (g.S.Source.left c.read_line.new.src) c.read_line.new.line.items c.in_ok-read_line.field-0 c.in-End.is c.in_ok-read_line.ensures.taken;
   later = c.in_ok-read_line.ensures.later;
 }

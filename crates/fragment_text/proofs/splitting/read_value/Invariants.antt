@@ -1,5 +1,6 @@
-use Rattle.std.proofs.Common.{length, ◌-◌, ◌≤◌}
+use Rattle.std.proofs.Common.{length, ◌+◌, ◌-◌, ◌≤◌}
 use Rattle.std.specs.Io.KnownBytes.{Consumes}
+use Rattle.entry_frames.specs.Limits.{longest_value}
 use Rattle.fragment_text.proofs.splitting.read_value.Given as goal
 
 -- what was read so far
@@ -10,4 +11,4 @@ invariant-pieces g l = record {
 }
 
 abbrev pub decreases-pieces : goal.decreases-pieces
-decreases-pieces g l = 32_769 - length l.value.items
+decreases-pieces g l = longest_value + 1 - length l.value.items

@@ -1,5 +1,5 @@
 use Rattle.std.proofs.Common.{◌≡◌, take}
-use Rattle.log_store.specs.Stores.{bulk_of}
+use Rattle.entry_frames.specs.Bulk.{bulk_of}
 use Rattle.log_store.proofs.store.sum_of.Given as goal
 
 abbrev pub invariant-loop-entry : goal.invariant-loop-entry

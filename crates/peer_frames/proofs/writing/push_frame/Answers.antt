@@ -1,20 +1,16 @@
 use Rattle.std.proofs.Common.{ap}
-use Rattle.entry_frames.specs.Kinds.{PeerKind}
-use Rattle.entry_frames.specs.Messages.{Message}
-use Rattle.peer_frames.specs.Messages.{body_of}
+use Rattle.entry_frames.specs.declared.kind.Kind.TheVariants as kinds
 use Rattle.peer_frames.proofs.Heads.{peer_spelled, peer_written, asked_written, answered_written}
 use Rattle.peer_frames.proofs.writing.push_frame.Goals as goal
 
 pub push_said-requires-clause-fit : goal.push_said-requires-clause-fit
 push_said-requires-clause-fit c =
-    let m : Message = record { sender = c.in-Peer.from; receiver = c.in-Peer.to; term = c.in-Peer.term; body = body_of c.in-Peer.body } in
-    rw c.need-need.ensures.value (peer_spelled c.args.shape.now m (rw c.in-Peer.is at c.requires)).0
+    rw c.need-k.ensures.value (peer_spelled c.args.shape.now c.in-Peer.from c.in-Peer.to c.in-Peer.term c.in-Peer.body (rw c.in-Peer.is at c.requires)).0
 
 pub returns-in_ok-push_said-in-Peer : goal.returns-in_ok-push_said-in-Peer
 returns-in_ok-push_said-in-Peer c =
-    let m : Message = record { sender = c.in-Peer.from; receiver = c.in-Peer.to; term = c.in-Peer.term; body = body_of c.in-Peer.body } in
-    rw c.in-Peer.is (peer_written c.args.shape.now m c.args.frame.now.items c.push_head.new.frame.items c.push_said.new.frame.items _ _ _ c.need-need.result (rw c.in-Peer.is at c.requires)
-    (ap PeerKind c.kind_of_peer.ensures) c.number.ensures.value c.number-in-Peer.ensures.value c.need-need.ensures.value c.in_ok-push_head-in-Peer.ensures c.in_ok-push_said-in-Peer.ensures)
+    rw c.in-Peer.is (peer_written c.args.shape.now c.in-Peer.from c.in-Peer.to c.in-Peer.term c.in-Peer.body c.args.frame.now.items c.push_head.new.frame.items c.push_said.new.frame.items _ _ _ c.need-k.result (rw c.in-Peer.is at c.requires)
+    (ap kinds.Peer c.kind_of_peer.ensures) c.number.ensures.value c.number-in-Peer.ensures.value c.need-k.ensures.value c.in_ok-push_head-in-Peer.ensures c.in_ok-push_said-in-Peer.ensures)
 
 pub returns-in_ok-push_request-in-Request : goal.returns-in_ok-push_request-in-Request
 returns-in_ok-push_request-in-Request c =

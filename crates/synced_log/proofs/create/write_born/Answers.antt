@@ -1,10 +1,14 @@
 use Rattle.std.proofs.Common.{◌≡◌, inl, ℕ, List, [], ◌∷◌, take, drop, get_or, ap, ◌∙◌, subst}
-use Rattle.std.specs.Prelude.{Option, Some, IsTrue, option_map}
+use Rattle.std.proofs.lemmas.Result.{err_from_is_err_and}
+use Rattle.std.specs.Prelude.{Option, Some, IsTrue, is_err, option_map}
+use Rattle.craft_edge.specs.DiskCalls.{DiskWork, WriteAt, Sync}
+use Rattle.synced_log.specs.Calls.{Makes}
 use Rattle.craft_edge.specs.Disk.{written, Torn, Only, OnlySeen}
 use Rattle.synced_log.specs.Crashes.{TornFrom}
 use Rattle.synced_log.specs.Creation.{CreationLeaves, IsBlank}
 use Rattle.synced_log.proofs.Answering.{on_ok}
 use Rattle.synced_log.proofs.Creating.{tail_of, tail_torn, tail_written, first_torn, first_written}
+use Rattle.synced_log.proofs.Made.{made_first, made_both}
 use Rattle.synced_log.proofs.Watching.{leaves_less, then_leaves}
 use Rattle.synced_log.proofs.create.write_born.Goals as goal
 
@@ -58,3 +62,28 @@ returns-clause-crash g c =
     (subst (λ (b : List ℕ). Torn 0 b (get_or file 0 0 ∷ tail_of owner) image) first_is (subst (λ (f : List ℕ). Torn 0 (take 1 c.born_file-born.result) f image) (durable t.0 t.1) t.2)))
     c.write_steadily-2.ensures.crash in
     then_leaves d.tells_crash d.tells_past d.moment d.may_leave d.left_since old mid c.write_steadily-2.new.disk P one two
+
+abbrev written_at : ℕ → List ℕ → List DiskWork
+written_at at bytes = WriteAt at bytes ∷ Sync ∷ []
+
+pub returns-in_err-write_steadily-clause-calls : goal.returns-in_err-write_steadily-clause-calls
+returns-in_err-write_steadily-clause-calls g c =
+    let d = g.D.Disk in
+    let old = d.history c.args.disk.now in
+    let new = d.history c.write_steadily.new.disk in
+    let bytes_are : take 32 (drop 1 c.born_file-born.result) ≡ tail_of c.args.owner = ap (λ (l : List ℕ). take 32 (drop 1 l)) c.born_file-born.ensures in
+    let failed = err_from_is_err_and c.from_residual.result c.from_residual.ensures.1 in
+    made_first old new (written_at 1 (tail_of c.args.owner)) (written_at 0 (67 ∷ [])) c.write_steadily.result c.from_residual.result (ap is_err c.in_err-write_steadily.was) (ap is_err failed.1)
+    (subst (λ (b : List ℕ). Makes old new (written_at 1 b) c.write_steadily.result) bytes_are c.write_steadily.ensures.history)
+
+pub returns-clause-calls : goal.returns-clause-calls
+returns-clause-calls g c =
+    let d = g.D.Disk in
+    let old = d.history c.args.disk.now in
+    let mid = d.history c.write_steadily.new.disk in
+    let new = d.history c.write_steadily-2.new.disk in
+    let bytes_are : take 32 (drop 1 c.born_file-born.result) ≡ tail_of c.args.owner = ap (λ (l : List ℕ). take 32 (drop 1 l)) c.born_file-born.ensures in
+    let first_is : take 1 c.born_file-born.result ≡ 67 ∷ [] = ap (λ (l : List ℕ). take 1 l) c.born_file-born.ensures in
+    made_both old mid new (written_at 1 (tail_of c.args.owner)) (written_at 0 (67 ∷ [])) c.write_steadily.result c.write_steadily-2.result (ap is_err c.in_ok-write_steadily.was)
+    (subst (λ (b : List ℕ). Makes old mid (written_at 1 b) c.write_steadily.result) bytes_are c.write_steadily.ensures.history)
+    (subst (λ (b : List ℕ). Makes mid new (written_at 0 b) c.write_steadily-2.result) first_is c.write_steadily-2.ensures.history)

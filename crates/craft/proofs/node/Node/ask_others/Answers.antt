@@ -1,5 +1,5 @@
 use Rattle.std.proofs.Common.{◌∙◌, refl, append_assoc}
-use Rattle.peer_frames.specs.declared.message.Peer.TheVariants.{Vote}
+use Rattle.entry_frames.specs.declared.peer.Peer.TheVariants.{Vote}
 use Rattle.craft.proofs.Sending.{messages_to-more}
 use Rattle.craft.proofs.node.Node.ask_others.Goals as goal
 

@@ -1,6 +1,6 @@
 use Rattle.std.proofs.Common.{◌≡◌, ◌++◌}
 use Rattle.std.specs.List.{range_with_len}
-use Rattle.peer_frames.specs.declared.message.Peer.TheVariants.{Vote}
+use Rattle.entry_frames.specs.declared.peer.Peer.TheVariants.{Vote}
 use Rattle.craft.specs.Says.{messages_to}
 use Rattle.craft.proofs.node.Node.ask_others.Given as goal
 

@@ -1,11 +1,8 @@
-use Rattle.std.proofs.Common.{sym, subst}
-use Rattle.world_model.specs.Rules.Terms.{caught_up}
-use Rattle.craft.specs.Kept.{KeptAct}
-use Rattle.craft.proofs.Turning.{takes_fresh}
+use Rattle.world_model.specs.Rules.Terms.{act_of_term}
+use Rattle.craft.proofs.Turning.{current_kept}
 use Rattle.craft.proofs.node.Node.take_peer.Goals as goal
 
 pub returns : goal.returns
-returns c = λ m is_sender is_term is_body n is_n.
-    subst (λ act. KeptAct act c.take_body.new.self c.args.sends.now.items c.take_body.new.sends.items)
-    (sym (takes_fresh c.args.sender c.args.term m is_sender is_term c.args.self.now n is_n c.if-term-self.false))
-    (c.in_ok-take_body.ensures m.body is_body (caught_up n m) (c.catch_up.ensures m is_term n is_n))
+returns c = λ receiver n is_n.
+    current_kept c.args.sender receiver c.args.term c.args.body.now c.args.self.now c.take_body.new.self c.args.sends.now.items c.take_body.new.sends.items n is_n c.if-term-self.false
+    (c.in_ok-take_body.ensures (act_of_term c.args.term n).node (c.catch_up.ensures n is_n))

@@ -1,6 +1,6 @@
 use Rattle.std.proofs.Common.{◌≡◌, ◌++◌, map}
 use Rattle.std.specs.Option.{option_to_list}
-use Rattle.peer_frames.specs.declared.output.Output.TheVariants.{Send}
+use Rattle.entry_frames.specs.declared.output.Output.TheVariants.{Send}
 use Rattle.craft.proofs.node.turn.tell.Given as goal
 
 -- the messages passed so far are told

@@ -1,6 +1,7 @@
 use Rattle.std.proofs.Common.{◌≡◌, map}
 use Rattle.std.specs.List.{range_with_len}
-use Rattle.world_model.specs.Nodes.{started, born}
+use Rattle.entry_frames.specs.Durable.{born}
+use Rattle.world_model.specs.Nodes.{started}
 use Rattle.craft.specs.Kept.{kept_node}
 use Rattle.craft.proofs.world.World.new.Given as goal
 

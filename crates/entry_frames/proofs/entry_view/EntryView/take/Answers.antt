@@ -15,7 +15,7 @@ invariant_of-result c =
     let t = c.in_ok-tag.ensures in
     let k = c.in_ok-kind.ensures in
     let read = entry_begins c.args.k c.args.low c.args.high c.args.fields.now c.read.new.fields c.read_under.new.fields c.in_ok-tag.tag c.in_ok-kind.kind t.0 k.0 _ t.1 t.2 k.1 k.2 c.in_ok-parts.ensures in
-    read_in_range c.args.k c.args.low c.args.high c.args.fields.now (record { value = entry_of c.in_ok-parts.parts; place = c.read-2.new.fields }) c.requires.needs
+    read_in_range c.args.k c.args.low c.args.high c.args.fields.now (record { value = entry_of c.in_ok-parts.parts; cursor = c.read-2.new.fields }) c.requires.needs
     c.rest-rest.ensures.bytes read
 
 pub returns-clause-exact : goal.returns-clause-exact

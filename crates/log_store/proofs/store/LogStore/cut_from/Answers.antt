@@ -1,5 +1,6 @@
 use Rattle.std.proofs.Common.{◌-◌, ◌<◌, ◌∙◌, ap, sym, subst, take, arith}
-use Rattle.log_store.specs.Stores.{AreEntries, bulk_of}
+use Rattle.entry_frames.specs.Bulk.{bulk_of}
+use Rattle.log_store.specs.Stores.{AreEntries}
 use Rattle.log_store.proofs.Entries.{bulk_room, cut_bulk, cut_small, taken}
 use Rattle.log_store.proofs.store.LogStore.cut_from.Goals as goal
 
@@ -14,12 +15,13 @@ overflow_sub-self c = (cut_bulk c.deref.result.now (c.args.index - 1) c.self.ins
 
 pub invariant_of-self : goal.invariant_of-self
 invariant_of-self c =
-    let need = c.self.inside.shape.need in
+    let k = c.self.inside.shape.need in
     let left = c.args.index - 1 in
     let bulk = cut_bulk c.deref.result.now left c.self.inside.bulk c.sum_of.result (c.self.invariant.1 ∙ ap bulk_of (sym c.deref.ensures.value)) c.sum_of.ensures in (
       record {
-        need = c.self.invariant.0.need;
-        entries = subst (AreEntries need 0 c.self.inside.term) (sym c.truncate.ensures.items) (taken need 0 c.self.inside.term left c.self.inside.entries.items c.self.invariant.0.entries);
+        k = c.self.invariant.0.k;
+        term_most = c.self.invariant.0.term_most;
+        entries = subst (AreEntries k 0 c.self.inside.term) (sym c.truncate.ensures.items) (taken k 0 c.self.inside.term left c.self.inside.entries.items c.self.invariant.0.entries);
       },
       bulk.1 ∙ ap (λ l. bulk_of (take left l)) c.deref.ensures.value ∙ ap bulk_of (sym c.truncate.ensures.items),
     )

@@ -7,6 +7,6 @@ use Rattle.log_store.proofs.store.LogStore.replay.Given as goal
 -- the groups so far were applied
 abbrev pub invariant-loop-n : goal.invariant-loop-n
 invariant-loop-n l = record {
-  group : l.store.group ≡ l.shape;
+  shape : l.store.shape ≡ l.shape;
   kept : (all : List (List Record)) → l.groups.placed ≡ placed_from l.shape.need 32 all → AreGroups l.shape born all → l.store.kept ≡ after_groups born (take l.n all);
 }

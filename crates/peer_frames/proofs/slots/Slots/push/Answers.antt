@@ -1,5 +1,5 @@
 use Rattle.std.proofs.Common.{◌∙◌, ◌∷◌, [], ◌++◌, length, ap, arith}
-use Rattle.peer_frames.proofs.Batches.{pushed, as_many, is_batch_more}
+use Rattle.entry_frames.proofs.Batches.{pushed, as_many, is_batch_more}
 use Rattle.peer_frames.proofs.slots.Slots.push.Goals as goal
 
 pub invariant_of-self : goal.invariant_of-self
