@@ -1,0 +1,7 @@
+mod Voting
+mod Sending
+mod Acting
+mod Waiting
+mod Taking
+mod Telling
+mod Ranging

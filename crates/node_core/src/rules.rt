@@ -1,0 +1,5 @@
+//! The rules of a turn, one file a rule.
+mod terms;
+mod tick;
+mod vote;
+mod vote_reply;
