@@ -8,7 +8,7 @@ use Rattle.log_store.specs.Stores.{IsStored, shown}
 use Rattle.log_store.proofs.Entries.{terms_in_range}
 use Rattle.world_model.specs.Nodes.{Node}
 use Rattle.world_model.specs.Ranges.{LogInRange, NodeInRange}
-use Rattle.node_core.specs.Stands.{Kept, kept_node}
+use Rattle.node_core.specs.Stands.{AreHeard, Kept, kept_node}
 
 pub node_in_range : (core : Kept) (n : Node) → core ≡ kept_node n → core.me < members_of core.shape → IsStored core.shape core.durable.term core.durable.log
     → IsLog (shown core.shape core.durable) → NodeInRange core.shape core.me n
@@ -21,6 +21,13 @@ node_in_range core n e member stored is_log =
       log = subst (λ d. LogInRange d.log) kept (record { short = is_log.short; terms = terms_in_range stored });
       commit = subst (λ d. d.commit ≤ length d.log) kept is_log.committed;
     }
+
+-- there is a node that a member stands for
+pub there_is : (core : Kept) → AreHeard core.voters → (n : Node) × (core ≡ kept_node n)
+there_is core heard = (
+  record { shape = core.shape; me = core.me; durable = core.durable; volatile = record { role = core.role; quiet = core.quiet; hint = core.hint; heard = heard.0 } },
+  ap (λ voters. record { shape = core.shape; me = core.me; durable = core.durable; role = core.role; quiet = core.quiet; hint = core.hint; voters = voters }) heard.1,
+)
 
 -- records are spelled as something
 pub none_spelled : (k : ℕ) (records : List Record) → record_spellings k records ≡ [] → records ≡ []

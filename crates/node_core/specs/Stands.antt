@@ -24,6 +24,10 @@ pub record Kept : Type 0 where
 abbrev pub kept_voters : List Heard → Voters
 kept_voters heard = record { granted = map (λ member. granted_by member heard) (range_with_len 0 15) }
 
+-- there is something that was heard, of which they are kept
+abbrev pub AreHeard : Voters → Type 0
+AreHeard voters = (heard : List Heard) × (voters ≡ kept_voters heard)
+
 abbrev pub kept_node : Node → Kept
 kept_node n =
     record {

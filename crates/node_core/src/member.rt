@@ -30,7 +30,7 @@ pub struct Core {
 impl Model for Core {
     ghost use Rattle.std.specs.Prelude.{◌≡◌, ◌<◌};
     ghost use Rattle.craft_base.specs.Shape.{members_of};
-    ghost use Rattle.node_core.specs.Stands.{Kept};
+    ghost use Rattle.node_core.specs.Stands.{AreHeard, Kept};
 
     ghost Value = { Kept };
 
@@ -44,7 +44,7 @@ impl Model for Core {
       voters = core.voters;
     } };
 
-    ghost invariant = { λ core. (core.store.shape ≡ core.shape) × (core.me < members_of core.shape) };
+    ghost invariant = { λ core. (core.store.shape ≡ core.shape) × (core.me < members_of core.shape) × AreHeard core.voters };
 }
 
 impl Core {

@@ -35,7 +35,9 @@ impl Core {
     /// error is want of memory; the member is then gone.
     pub fn turn(self, event: &Event<'_>) -> Result<(Core, Turned), OutOfMemory>
         requires { IsFor self event.now }
-        ensures { IfOk result (λ x. (n : Node) → Stands self n → TurnedTo self n (event_of event.now) x.0 x.1) }
+        ensures turned { IfOk result (λ x. (n : Node) → Stands self n → TurnedTo self n (event_of event.now) x.0 x.1) }
+        // And there is a node that it stands for, so that this speaks of something.
+        ensures stands { IfOk result (λ x. (n : Node) × Stands self n) }
     {
         let mut core = self;
         core.shape.law();

@@ -1,6 +1,8 @@
 //! Who granted a candidate its vote.
-ghost use Rattle.std.specs.Prelude.{◌≡◌, ◌+◌, ◌≤◌, ◌<◌, slice_set, true, false, take, replicate};
+ghost use Rattle.std.specs.Prelude.{◌≡◌, ℕ, List, ◌∷◌, ◌+◌, ◌≤◌, ◌<◌, slice_set, true, false, take, replicate};
 ghost use Rattle.std.specs.List.{count_by};
+ghost use Rattle.craft_base.specs.Knowledge.{Heard, From, Voted};
+ghost use Rattle.node_core.specs.Stands.{kept_voters};
 
 use craft_base::MemberId;
 
@@ -25,7 +27,8 @@ impl Voters {
 
     /// Counts the vote of `member`, again or for the first time.
     pub fn add(&mut self, member: MemberId)
-        ensures { self.new.granted ≡ slice_set self.old.granted member true }
+        ensures granted { self.new.granted ≡ slice_set self.old.granted member true }
+        ensures heard { (heard : List Heard) (last : ℕ) → self.old ≡ kept_voters heard → self.new ≡ kept_voters (From member last (Voted true) ∷ heard) }
     {
         self.granted[usize::from(member.number())] = true;
     }

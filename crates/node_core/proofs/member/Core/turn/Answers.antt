@@ -11,12 +11,13 @@ use Rattle.world_model.specs.Turn as turns
 use Rattle.world_model.proofs.Applying.{every_turn_can_be_applied}
 use Rattle.world_model.proofs.Ranges.Turns.{act_in_range}
 use Rattle.node_core.specs.Turns.{change_of, event_of}
-use Rattle.node_core.proofs.Ranging.{node_in_range, none_spelled}
+use Rattle.node_core.specs.Stands.{AreHeard}
+use Rattle.node_core.proofs.Ranging.{node_in_range, none_spelled, there_is}
 use Rattle.node_core.proofs.Telling.{added_to_none, sent_alone, told_kept}
 use Rattle.node_core.proofs.member.Core.turn.Goals as goal
 
-pub returns : goal.returns
-returns c = λ n e.
+pub returns-clause-turned : goal.returns-clause-turned
+returns-clause-turned c = λ n e.
     let acted = c.in_ok-act-2.ensures n e in
     let self = c.args.self in
     let now = c.act.new.self in
@@ -49,3 +50,6 @@ returns c = λ n e.
           (sent_alone c.in_ok-act.act.sends.items c.in_ok-act-2.act.sends.items act.sends c.in_ok-act.ensures.sends acted.sends);
       spelled = (act_in_range is event c.requires ranged).sends;
     }
+
+pub returns-clause-stands : goal.returns-clause-stands
+returns-clause-stands c = there_is c.args.self (subst (λ core. AreHeard core.voters) c.core.view_is c.core.invariant.2)
