@@ -4,6 +4,7 @@ use craft_base::{MemberId, Shape};
 use log_store::LogStore;
 use peer_frames::{Message, Peer};
 use std::alloc::Global;
+use std::process::Abort;
 use std::test::Fail;
 use test_text::bytes_of;
 
@@ -12,6 +13,37 @@ fn started(alloc: Global, number: u8) -> Result<Core, Fail> {
     let shape = Shape::new(1, 1)?;
     let me = MemberId::new(&shape, number).ok_or("no such member")?;
     Ok(Core::boot(alloc, &shape, me, LogStore::new(alloc, &shape))?)
+}
+
+/// The output sends the request of member 0 in term 1, whose log is empty, to that member.
+fn asks(rt: &impl Abort, output: &Output, member: u8) -> Result<(), Fail> {
+    let Output::Send { message } = output else {
+        return Err("nothing is sent".into());
+    };
+    let Message::Peer {
+        from,
+        to,
+        term,
+        body,
+    } = message
+    else {
+        return Err("no message of a member".into());
+    };
+    assert_eq!(rt; (from.number(), to.number(), *term), (0, member, 1));
+    let Peer::Vote { last_term, last } = body else {
+        return Err("no request for a vote".into());
+    };
+    assert_eq!(rt; (*last_term, *last), (0, 0), "to {member}");
+    Ok(())
+}
+
+/// The output says that the member is a candidate in term 1.
+fn tells_candidacy(rt: &impl Abort, output: &Output) -> Result<(), Fail> {
+    let Output::Role { role, term } = output else {
+        return Err("no role is told".into());
+    };
+    assert_eq!(rt; (*role, *term), (Role::Candidate, 1));
+    Ok(())
 }
 
 #[test]
@@ -32,39 +64,7 @@ fn three_quiet_ticks_start_an_election(rt: HostRuntime) -> Result<(), Fail> {
     let want = bytes_of(alloc, "000000000000000a 01 0000000000000001 00 00")?;
     assert_eq!(rt; turned.group.as_bytes(), want.as_slice());
     assert_eq!(rt; turned.outputs.len(), 3);
-    assert!(rt;
-        matches!(
-            &turned.outputs[0],
-            Output::Role {
-                role: Role::Candidate,
-                term: 1
-            }
-        )
-    );
-    for (number, output) in [1u8, 2].iter().zip(turned.outputs.iter().skip(1)) {
-        let Output::Send { message } = output else {
-            return Err("no message".into());
-        };
-        let Message::Peer {
-            from,
-            to,
-            term,
-            body,
-        } = message
-        else {
-            return Err("no message of a member".into());
-        };
-        assert_eq!(rt; (from.number(), to.number(), *term), (0, *number, 1));
-        assert!(rt;
-            matches!(
-                body,
-                Peer::Vote {
-                    last_term: 0,
-                    last: 0
-                }
-            ),
-            "to {number}"
-        );
-    }
-    Ok(())
+    tells_candidacy(&rt, &turned.outputs[0])?;
+    asks(&rt, &turned.outputs[1], 1)?;
+    asks(&rt, &turned.outputs[2], 2)
 }
