@@ -1,17 +1,14 @@
 -- The world at its start agrees with the start of the protocol.
-use Rattle.std.proofs.Common.{◌≡◌, ℕ, ◌<◌, refl, ap, subst, ◌∙◌, arith}
+use Rattle.std.proofs.Common.{ℕ, ◌<◌, refl, subst}
 use Rattle.std.proofs.lemmas.List.Elements.{All-nil}
 use Rattle.craft_base.specs.Shape.{Shape, members_of}
-use Rattle.entry_frames.specs.Durable.{born}
-use Rattle.world_model.specs.Nodes.{started}
 use Rattle.world_model.specs.World as world
 use Rattle.protocol.specs.History as protocol
 use Rattle.bridge.specs.Agreement.{MessageAgrees, NodeAgrees, WorldAgrees}
-use Rattle.world_model.proofs.Positions.{made_at}
+use Rattle.world_model.proofs.Positions.{repeated_at}
 
-started_agrees :
-    (shape : Shape) (member : ℕ) → member < members_of shape → NodeAgrees shape protocol.start member (started shape member born)
-started_agrees shape member within = record {
+newborn_agrees : (shape : Shape) (me : ℕ) → me < members_of shape → NodeAgrees shape protocol.start me (world.node_of shape me world.newborn)
+newborn_agrees shape me within = record {
   of_shape = refl;
   me = refl;
   within = within;
@@ -25,9 +22,9 @@ started_agrees shape member within = record {
 
 pub start_agrees : (shape : Shape) → WorldAgrees shape protocol.start (world.start shape)
 start_agrees shape = record {
-  nodes = λ member n e.
-      let made = made_at (λ me. started shape me born) 0 (members_of shape) member n e in
-      let same : started shape member born ≡ n = ap (λ me. started shape me born) (omega arith) ∙ made.1 in
-      subst (NodeAgrees shape protocol.start member) same (started_agrees shape member made.0);
+  of_shape = refl;
+  members = λ me m e.
+      let at = repeated_at (members_of shape) world.newborn me m e in
+      subst (λ it. NodeAgrees shape protocol.start me (world.node_of shape me it)) at.1 (newborn_agrees shape me at.0);
   sent = All-nil (MessageAgrees protocol.start);
 }

@@ -7,7 +7,7 @@ use Rattle.entry_frames.specs.declared.message.Message.{Message}
 use Rattle.entry_frames.specs.declared.message.Message.TheVariants as messages
 use Rattle.craft_base.specs.Knowledge.{Heard, Told, Beat, From, Voted}
 use Rattle.world_model.specs.Nodes.{Node}
-use Rattle.world_model.specs.World.{World}
+use Rattle.world_model.specs.World.{Member, World, node_of}
 use Rattle.protocol.specs.History.{History}
 use Rattle.protocol.specs.Logs.{last_term}
 use Rattle.bridge.specs.Views.{role_seen, log_seen}
@@ -59,7 +59,8 @@ pub record NodeAgrees (shape : Shape) (h : History) (member : ℕ) (n : Node) : 
   pub role : h.role member ≡ role_seen n.volatile.role
   pub heard : All (HeardAgrees h n.durable.term member) n.volatile.heard
 
--- each member agrees, and each message that was ever sent
+-- each member agrees, as the node as which it runs or would start, and each message that was ever sent
 pub record WorldAgrees (shape : Shape) (h : History) (w : World) : Type 0 where
-  pub nodes : (member : ℕ) (n : Node) → slice_get w.nodes member ≡ Some n → NodeAgrees shape h member n
+  pub of_shape : w.shape ≡ shape
+  pub members : (me : ℕ) (m : Member) → slice_get w.members me ≡ Some m → NodeAgrees shape h me (node_of w.shape me m)
   pub sent : All (MessageAgrees h) w.sent

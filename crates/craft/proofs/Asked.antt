@@ -11,18 +11,14 @@ use Rattle.fragment_text.specs.declared.split_end.SplitEnd.{SplitEnd}
 use Rattle.fragment_text.specs.declared.split_end.SplitEnd.TheVariants as splits
 use Rattle.world_model.specs.declared.command.Command.{Command}
 use Rattle.world_model.specs.declared.command.Command.TheVariants as commands
-use Rattle.craft.specs.declared.replay_end.ReplayEnd.{ReplayEnd}
-use Rattle.craft.specs.declared.replay_end.ReplayEnd.TheVariants as ends
+use Rattle.schedule_replay.specs.declared.replay_end.ReplayEnd.{ReplayEnd}
+use Rattle.schedule_replay.specs.declared.replay_end.ReplayEnd.TheVariants as ends
 use Rattle.craft.specs.declared.status.Status.TheVariants.{BadWords, SourceFault, SinkFault}
 use Rattle.craft.specs.Program.{Answers, Replays, Splits, Joins}
-use Rattle.craft.specs.Replaying.{Counts, Ends}
+use Rattle.schedule_replay.specs.Replaying.{Ends}
 use Rattle.craft.specs.Statuses.{status_of_end, status_of_split, status_of_join}
 
--- the faults that a replay counts
-abbrev pub counts_of : Streams → Counts
-counts_of streams = record { source = streams.source_faults; sink = streams.sink_faults }
-
-pub replayed : (shape : Shape) (before after : Streams) (end : ReplayEnd) → Ends shape before.left after.left before.taken after.taken (counts_of before) (counts_of after) end
+pub replayed : (shape : Shape) (before after : Streams) (end : ReplayEnd) → Ends shape before after end
     → Replays shape before after (status_of_end end)
 replayed shape before after ends.End h = h
 replayed shape before after (ends.Bad line) h = h

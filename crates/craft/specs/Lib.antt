@@ -1,9 +1,2 @@
-pub mod Faults
-pub mod Network
-pub mod Kept
 pub mod Program
-pub mod Replaying
-pub mod Says
 pub mod Statuses
-pub mod Turns
-pub mod Worlds

@@ -11,7 +11,7 @@ use Rattle.world_model.specs.declared.command.Command.{Command}
 use Rattle.world_model.specs.declared.command.Command.TheVariants.{Replay, Split, Join}
 use Rattle.craft.specs.declared.status.Status.{Status}
 use Rattle.craft.specs.declared.status.Status.TheVariants.{Done, BadWords, BadSchedule, TooFew, SourceFault, SinkFault, NoMemory}
-use Rattle.craft.specs.Replaying.{PrintsAll, PrintsUpTo}
+use Rattle.schedule_replay.specs.Replaying.{PrintsAll, PrintsUpTo}
 
 -- the paths of the journals that a command has, and the place at which it binds its socket; no command has one yet
 abbrev pub paths : List (List ℕ) → List (List ℕ)
@@ -23,9 +23,9 @@ place words = None
 -- What a status of `replay` means: the whole input was read, every line of it was good, and exactly the text of the run was
 -- written; or that line is the first bad one, and exactly the text of the events before it was written; or that device failed.
 abbrev pub Replays : Shape → Streams → Streams → Status → Type 0
-Replays shape before after Done = PrintsAll shape before.left after.left before.taken after.taken
+Replays shape before after Done = PrintsAll shape before after
 Replays shape before after BadWords = ⊥
-Replays shape before after (BadSchedule line) = PrintsUpTo shape line before.left before.taken after.taken
+Replays shape before after (BadSchedule line) = PrintsUpTo shape line before after
 Replays shape before after (TooFew index) = ⊥
 Replays shape before after SourceFault = Rose before.source_faults after.source_faults
 Replays shape before after SinkFault = Rose before.sink_faults after.sink_faults

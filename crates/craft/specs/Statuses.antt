@@ -5,8 +5,8 @@ use Rattle.fragment_text.specs.declared.join_end.JoinEnd.{JoinEnd}
 use Rattle.fragment_text.specs.declared.join_end.JoinEnd.TheVariants as joins
 use Rattle.fragment_text.specs.declared.split_end.SplitEnd.{SplitEnd}
 use Rattle.fragment_text.specs.declared.split_end.SplitEnd.TheVariants as splits
-use Rattle.craft.specs.declared.replay_end.ReplayEnd.{ReplayEnd}
-use Rattle.craft.specs.declared.replay_end.ReplayEnd.TheVariants as ends
+use Rattle.schedule_replay.specs.declared.replay_end.ReplayEnd.{ReplayEnd}
+use Rattle.schedule_replay.specs.declared.replay_end.ReplayEnd.TheVariants as ends
 use Rattle.craft.specs.declared.status.Status.{Status}
 use Rattle.craft.specs.declared.status.Status.TheVariants.{Done, BadWords, BadSchedule, SourceFault, SinkFault, TooFew, NoMemory}
 

@@ -2,18 +2,11 @@
 #![tactic(auto)]
 
 mod adapters;
-mod event_text;
-mod network;
-mod node;
-mod replay;
-mod replay_end;
 mod status;
 #[cfg(test)]
 mod tests;
 mod top;
-mod voters;
 mod words;
-mod world;
 
 use adapters::{ReaderSource, WriterSink, no_disks};
 use craft_base::OutOfMemory;
@@ -40,6 +33,12 @@ event a line, and each line ends with a line feed alone:
   tick i word   time passes at member i, 0 to 2F; with a word from 0 to 2^64-1
                 it stands for election after 3 + word mod 8 quiet ticks
   take m        frame m, 1 to 2^64-1, is delivered; it may be taken again
+  down i        member i goes down between two turns
+  up i          member i starts anew over what its disk holds
+  show i        what outlives a crash of member i is printed, where it runs
+  stop c b e    e, a tick or a take line, happens, and the machine stops in its
+                device call c, 1 to 4; what is pending on the disk is kept where
+                b is 1, and spoiled where it is 0; the member is then down
 
 split prints the fragments of a value of at most 32,768 bytes, one a line. join
 reads such lines, the value line and any k fragments or more, and writes the

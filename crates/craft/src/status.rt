@@ -2,9 +2,9 @@
 ghost use Rattle.std.specs.Prelude.{◌≡◌, IfOk};
 ghost use Rattle.craft.specs.Statuses.{code_of_status, text_of_status, bad_schedule_line, too_few_line, status_of_end, status_of_split, status_of_join};
 
-use crate::replay_end::ReplayEnd;
 use craft_base::{Blob, OutOfMemory};
 use fragment_text::{JoinEnd, SplitEnd};
+use schedule_replay::ReplayEnd;
 use std::alloc::Global;
 
 /// How the program ends.

@@ -5,12 +5,12 @@ ghost use Rattle.world_model.specs.Words as commands;
 ghost use Rattle.world_model.specs.declared.command.Command as command_types;
 ghost use Rattle.craft.specs.Program.{paths, place, Answers};
 
-use crate::replay::replay;
 use crate::status::Status;
 use crate::words::plan;
 use craft_base::OutOfMemory;
 use craft_edge::{Clock, Disk, Link, Sink, Source};
 use fragment_text::{join, split};
+use schedule_replay::replay;
 use std::alloc::Global;
 use world_model::Command;
 
@@ -57,7 +57,7 @@ fn run<S: Source, O: Sink>(alloc: Global, command: &Command, src: &mut S, out: &
         (record { left = S.left src.new; taken = O.taken out.new; source_faults = S.faults src.new; sink_faults = O.faults out.new }) result }
 {
     match command {
-        Command::Replay(shape) => Status::from(replay(alloc, shape, src, out)),
+        Command::Replay(shape) => Status::from(replay(alloc, shape, src, out).0),
         Command::Split(shape) => Status::from(split(alloc, shape, src, out)),
         Command::Join(shape) => Status::from(join(alloc, shape, src, out)),
     }

@@ -4,4 +4,5 @@ mod Acting
 mod Waiting
 mod Taking
 mod Telling
-mod Ranging
+pub mod Ranging
+mod Recording

@@ -1,5 +1,6 @@
 -- What a running member is told, and what is left of its turn.
 use Rattle.std.specs.Prelude.{◌≡◌, ℕ, [], All, ◌&&◌, ◌==◌, if◌then◌else◌, Option, None, Some}
+use Rattle.entry_frames.specs.Bodies.{HaveSpellings}
 use Rattle.entry_frames.specs.Durable.{CanApplyAll}
 use Rattle.entry_frames.specs.Records.{record_spellings}
 use Rattle.entry_frames.specs.declared.output.Output.{Output}
@@ -31,12 +32,15 @@ abbrev pub change_of : Role → ℕ → Role → ℕ → Option Output
 change_of role_before term_before role term =
     if turns.is_same_role role_before role && (term_before == term) then None else Some (outputs.Role role term)
 
--- What is left of the turn of a member that stood for a node. The member stands for the turn's node. The group spells the
--- turn's records, which can be applied, in order, to what the member kept before, and it is empty only where there are none. The
--- turn's outputs are told, and each message that is sent has a spelling.
+-- What is left of the turn of a member that stood for a node. The member is the same one of the same cluster, and stands for the
+-- turn's node. The group spells the turn's records, each of which has a spelling and which can be applied, in order, to what the
+-- member kept before, and it is empty only where there are none. The turn's outputs are told, and each message that is sent has a
+-- spelling.
 pub record TurnedTo (before : Kept) (n : Node) (event : turns.Event) (core : Kept) (left : Turned) : Type 0 where
   pub node : Stands core (turns.turn event n).node
+  pub same : (core.shape ≡ before.shape) × (core.me ≡ before.me)
   pub records : left.group ≡ record_spellings before.shape.need (turns.turn event n).records
+  pub written : HaveSpellings before.shape.need (turns.turn event n).records
   pub apply : CanApplyAll before.shape before.durable (turns.turn event n).records
   pub empty : left.group ≡ [] → (turns.turn event n).records ≡ []
   pub outputs : left.outputs.items ≡ (turns.turn event n).outputs

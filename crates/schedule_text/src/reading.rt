@@ -1,6 +1,6 @@
 //! The grammar of a schedule's lines.
 ghost use Rattle.std.specs.Prelude.{◌≡◌, map, Some, None, IfOk, IfErr};
-ghost use Rattle.world_model.specs.Schedule.{line_in, inner_of_words, tick_line, take_line};
+ghost use Rattle.world_model.specs.Schedule.{line_in, line_of_words, member_of, member_of_words, stop_of_words, inner_of_words, tick_line, take_line};
 ghost use Rattle.schedule_text.specs.declared.line_fault.LineFault.TheVariants.{Bad};
 
 use crate::line_fault::LineFault;
@@ -18,10 +18,77 @@ pub fn read_line(alloc: Global, shape: &Shape, line: &[u8]) -> Result<Line, Line
     ensures bad { IfErr result (λ fault. fault ≡ Bad → line_in shape.now line.now ≡ None) }
 {
     let words = words(alloc, line)?;
-    inner_of(shape, &words).map(Line::Do).ok_or(LineFault::Bad)
+    match line_of(shape, &words) {
+        Some(read) => Ok(read),
+        None => Err(LineFault::Bad),
+    }
 }
 
-/// What the words of a line say.
+/// What the words of a line say, by the first of them.
+fn line_of(shape: &Shape, words: &[&[u8]]) -> Option<Line>
+    ensures { result ≡ line_of_words shape.now (map (λ word. word.now) words.now) }
+{
+    match words {
+        [] => None,
+        [name, rest @ ..] => {
+            if *name == b"down".as_slice() {
+                member_alone(shape, rest).map(Line::Down)
+            } else if *name == b"up".as_slice() {
+                member_alone(shape, rest).map(Line::Up)
+            } else if *name == b"show".as_slice() {
+                member_alone(shape, rest).map(Line::Show)
+            } else if *name == b"stop".as_slice() {
+                stop_of(shape, rest)
+            } else {
+                inner_of(shape, words).map(Line::Do)
+            }
+        }
+    }
+}
+
+/// The member that stands alone behind `down`, `up` or `show`.
+fn member_alone(shape: &Shape, words: &[&[u8]]) -> Option<MemberId>
+    ensures { result ≡ member_of_words shape.now (map (λ word. word.now) words.now) }
+{
+    match words {
+        [member] => member_with(shape, number(member)?),
+        _ => None,
+    }
+}
+
+/// The member of that number.
+fn member_with(shape: &Shape, number: u64) -> Option<MemberId>
+    ensures { result ≡ member_of shape.now (Some number) }
+{
+    if number >= u64::from(shape.members()) {
+        return None;
+    }
+    MemberId::new(shape, number as u8)
+}
+
+/// `stop c b e`, by what stands behind `stop`: the call is 1 to 4, the digit 0 or 1.
+fn stop_of(shape: &Shape, words: &[&[u8]]) -> Option<Line>
+    ensures { result ≡ stop_of_words shape.now (map (λ word. word.now) words.now) }
+{
+    match words {
+        [call, digit, event @ ..] => {
+            let call = number(call)?;
+            let digit = number(digit)?;
+            let event = inner_of(shape, event)?;
+            if call < 1 || call > 4 || digit > 1 {
+                return None;
+            }
+            Some(Line::Stop {
+                call: call as u8,
+                keep: digit == 1,
+                event,
+            })
+        }
+        _ => None,
+    }
+}
+
+/// What the words say that is to happen to a member.
 fn inner_of(shape: &Shape, words: &[&[u8]]) -> Option<Inner>
     ensures { result ≡ inner_of_words shape.now (map (λ word. word.now) words.now) }
 {
@@ -41,10 +108,7 @@ fn tick_of(shape: &Shape, name: &[u8], member: &[u8], word: &[u8]) -> Option<Inn
     }
     let member = number(member)?;
     let word = number(word)?;
-    if member >= u64::from(shape.members()) {
-        return None;
-    }
-    let member = MemberId::new(shape, member as u8)?;
+    let member = member_with(shape, member)?;
     Some(Inner::Tick { member, word })
 }
 

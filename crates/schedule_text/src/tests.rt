@@ -1,12 +1,15 @@
 ghost use Rattle.std.specs.Prelude.{◌≡◌, true};
 ghost use Rattle.schedule_text.specs.Sends.{SendsPeer};
 
+use crate::kept_log::KeptLog;
 use crate::*;
 use craft_base::{Blob, Entry, Form, Head, MemberId, Op, OutOfMemory, Reply, Shape};
+use entry_frames::EntryView;
 use peer_frames::{Batch, Message, Output, Peer, Role};
 use std::alloc::Global;
 use std::process::Abort;
 use std::test::Fail;
+use test_text::bytes_of;
 
 /// The member of that number in a cluster of three.
 fn member(number: u8) -> MemberId {
@@ -215,28 +218,39 @@ fn tick(number: u8, word: u64) -> Inner {
     Inner::Tick { member, word }
 }
 
+fn take(frame: u64) -> Inner {
+    Inner::Take { frame }
+}
+
+fn stop(call: u8, keep: bool, event: Inner) -> Line {
+    Line::Stop { call, keep, event }
+}
+
 #[test]
 fn a_line_is_read(rt: HostRuntime) -> Result<(), Fail> {
     let shape = Shape::new(1, 2)?;
-    let table: [(&[u8], Inner); 4] = [
-        (b"tick 0 0", tick(0, 0)),
-        (b"tick 2 18446744073709551615", tick(2, u64::MAX)),
-        (b"take 1", Inner::Take { frame: 1 }),
-        (
-            b"take 18446744073709551615",
-            Inner::Take { frame: u64::MAX },
-        ),
+    let table: [(&[u8], Line); 10] = [
+        (b"tick 0 0", Line::Do(tick(0, 0))),
+        (b"tick 2 18446744073709551615", Line::Do(tick(2, u64::MAX))),
+        (b"take 1", Line::Do(take(1))),
+        (b"take 18446744073709551615", Line::Do(take(u64::MAX))),
+        (b"down 0", Line::Down(member(0))),
+        (b"down 2", Line::Down(member(2))),
+        (b"up 1", Line::Up(member(1))),
+        (b"show 1", Line::Show(member(1))),
+        (b"stop 1 0 tick 0 0", stop(1, false, tick(0, 0))),
+        (b"stop 4 1 take 1", stop(4, true, take(1))),
     ];
-    for (line, inner) in table {
+    for (line, want) in table {
         let read = read_line(rt.alloc(), &shape, line);
-        assert_eq!(rt; read, Ok(Line::Do(inner)), "at {line:?}");
+        assert_eq!(rt; read, Ok(want), "at {line:?}");
     }
     Ok(())
 }
 
-/// What is no event: a number out of range, words that are too few or too many, blanks and digits that don't belong there, and
-/// words of other commands.
-const BAD_LINES: [&[u8]; 28] = [
+/// What is no line of a cluster of three: a number out of range, words that are too few or too many, blanks and digits that don't
+/// belong there, words of other commands, and a stop in what isn't a turn.
+const BAD_LINES: [&[u8]; 41] = [
     b"tick 2 18446744073709551616",
     b"take 18446744073709551616",
     b"take 0",
@@ -262,9 +276,22 @@ const BAD_LINES: [&[u8]; 28] = [
     b"take 1a",
     b"Take 1",
     b"takes 1",
-    b"stop 3 0 take 1",
     b"call 0 7 1 put 61 0080",
-    b"show 0",
+    b"down 3",
+    b"up 256",
+    b"down",
+    b"down 0 0",
+    b"Down 0",
+    b"stop 0 0 take 1",
+    b"stop 5 0 take 1",
+    b"stop 3 2 take 1",
+    b"stop 03 1 take 1",
+    b"stop 3 1",
+    b"stop 3 1 down 0",
+    b"stop 3 1 stop 3 1 take 1",
+    b"stop 3 1 take 0",
+    b"stop 3 1  take 1",
+    b"stop 3 1 tick 3 0",
 ];
 
 #[test]
@@ -275,6 +302,59 @@ fn a_bad_line_is_refused(rt: HostRuntime) -> Result<(), Fail> {
         assert_eq!(rt; read, Err(LineFault::Bad), "at {line:?}");
     }
     Ok(())
+}
+
+/// What is shown of a member stands behind what stood there before.
+fn assert_shown(
+    rt: &impl Abort,
+    alloc: Global,
+    me: u8,
+    term: u64,
+    vote: Option<u8>,
+    log: &KeptLog<'_>,
+    want: &str,
+) -> Result<(), Fail> {
+    let mut out = b"12 done\n".to_vec(alloc)?;
+    show_of(alloc, &mut out, member(me), term, vote, log)?;
+    let want = format!(in alloc; "12 done\n{want}")?;
+    assert_eq!(rt; out.as_slice(), want.as_bytes());
+    Ok(())
+}
+
+// By hand: the member, its term, its vote, its last index and its commit index.
+#[test]
+fn an_empty_log_is_shown(rt: HostRuntime) -> Result<(), Fail> {
+    let alloc = rt.alloc();
+    let log = KeptLog::new(alloc, 2);
+    assert_shown(&rt, alloc, 1, 3, Some(0), &log, "node 1 3 0 0 0\n")?;
+    assert_shown(&rt, alloc, 2, 5, None, &log, "node 2 5 - 0 0\n")
+}
+
+// By hand: below it, for each entry, its index, its term, its form, what it does, who asked, the number of the request, the key,
+// the length of the value and what is held of it.
+#[test]
+fn entries_are_shown(rt: HostRuntime) -> Result<(), Fail> {
+    let alloc = rt.alloc();
+    let noop = bytes_of(
+        alloc,
+        "01 00 0000000000000001 0000000000000000 0000000000000000 00",
+    )?;
+    let put = bytes_of(
+        alloc,
+        "02 01 0000000000000001 0000000000000007 0000000000000001 01 61 00000002 1d",
+    )?;
+    two_are_shown(&rt, alloc, &noop, &put)
+}
+
+fn two_are_shown(rt: &impl Abort, alloc: Global, noop: &[u8], put: &[u8]) -> Result<(), Fail> {
+    let mut log = KeptLog::new(alloc, 2);
+    let (view, _) = EntryView::read(2, noop)?;
+    log.push(view)?;
+    log.commit_all();
+    let (view, _) = EntryView::read(2, put)?;
+    log.push(view)?;
+    let want = "node 1 1 0 2 1\nentry 1 1 w noop 0 0 - 0 -\nentry 2 1 p put 7 1 61 2 1d\n";
+    assert_shown(rt, alloc, 1, 1, Some(0), &log, want)
 }
 
 #[test]

@@ -15,4 +15,5 @@ pub mod Opening
 pub mod Staying
 pub mod Unique
 pub mod States
+pub mod Histories
 pub mod Stopped

@@ -1,10 +1,10 @@
 -- What a crash leaves of a disk in memory that stopped during `append`.
-use Rattle.std.proofs.Common.{◌≡◌, ◌≢◌, inl, inr, ℕ, ◌+◌, ◌<◌, ◌≤◌, List, [], ◌∷◌, ◌++◌, length, get_or, refl, sym, ap, ◌∙◌, subst, arith, append_assoc, append-nil, length-append}
-use Rattle.std.specs.Prelude.{Bool, true, false, Option, None, Some, ◌==◌, if◌then◌else◌}
+use Rattle.std.proofs.Common.{◌≡◌, ◌≢◌, inl, inr, ℕ, ◌+◌, ◌<◌, ◌≤◌, List, [], ◌∷◌, ◌++◌, length, get_or, refl, ap, ◌∙◌, subst, arith, length-append}
+use Rattle.std.specs.Prelude.{Bool, true, false, Option, Some, ◌==◌, leb, if◌then◌else◌}
 use Rattle.std.proofs.lemmas.Bool.{cases_lt}
 use Rattle.std.proofs.lemmas.Bool.Decides.{nat_tests}
 use Rattle.craft_edge.specs.Disk.{written}
-use Rattle.craft_edge.specs.DiskCalls.{DiskHistory, DiskWork, DiskCall, WriteAt, Sync, StopOrder, after_call_of}
+use Rattle.craft_edge.specs.DiskCalls.{DiskHistory, DiskWork, DiskCall, WriteAt, Sync, StopOrder}
 use Rattle.craft_edge.specs.DiskModel.{DiskState, after_write}
 use Rattle.crash_disk.specs.Image.{crash_image}
 use Rattle.crash_disk.specs.MemDisk.{DiskInMemory, IsAsTold}
@@ -18,31 +18,9 @@ use Rattle.synced_log.specs.Calls.{after_calls, FailsIn}
 use Rattle.synced_log.specs.Journal.{body_of}
 use Rattle.synced_log.specs.Standing.{append_calls}
 use Rattle.synced_log.specs.States.{OpensTo}
-use Rattle.synced_log.specs.Stopped.{StoppedAppend, image_of}
+use Rattle.synced_log.specs.Stopped.{StoppedAppend, StoppedCallFails, image_of}
+use Rattle.synced_log.proofs.Histories.{with_calls, last_call, made_history, failed_history}
 use Rattle.synced_log.proofs.States.{holds_opens, holds_same, opens_with, opens_without}
-
--- ---- the history, spelled out
-
-abbrev with_calls : DiskHistory → List DiskCall → DiskHistory
-with_calls h calls = record h { calls = h.calls ++ calls }
-
-spelled_out : (h : DiskHistory) (works : List DiskWork) → after_calls (Some h) works ≡ Some (with_calls h (made_well works))
-spelled_out h [] = ap (λ (l : List DiskCall). Some (record h { calls = l })) (sym (append-nil h.calls))
-spelled_out h (w ∷ works) =
-    let call : DiskCall = record { work = w; failed = false } in
-    spelled_out (with_calls h (call ∷ [])) works ∙ ap (λ (l : List DiskCall). Some (record h { calls = l })) (append_assoc h.calls (call ∷ []) (made_well works))
-
-abbrev last_call : DiskWork → DiskCall
-last_call w = record { work = w; failed = true }
-
-abbrev history_or : DiskHistory → Option DiskHistory → DiskHistory
-history_or d None = d
-history_or d (Some h) = h
-
-failed_history : (old new : DiskHistory) (works : List DiskWork) (f : FailsIn (Some old) (Some new) works) → new ≡ with_calls old (made_well f.made ++ last_call f.failed ∷ [])
-failed_history old new works f =
-    ap (history_or old) (f.is ∙ ap (λ (h : Option DiskHistory). after_call_of h f.failed true) (spelled_out old f.made))
-    ∙ ap (λ (l : List DiskCall). record old { calls = l }) (append_assoc old.calls (made_well f.made) (last_call f.failed ∷ []))
 
 -- ---- the gate
 
@@ -136,3 +114,21 @@ stopped_append old new gate o d records call keep holds can some told as_told fe
       without_early = λ soon. early (omega (arith, at, soon));
       without_spoiled = λ lost. elim (cases_lt (length f.made) 2) [ inl few ↦ early few | inr many ↦ spoiled many lost ];
     }
+
+-- ---- not all of the calls were made
+
+too_late : (stop number : ℕ) → stop ≤ number → false ≡ leb stop number → ⊥
+too_late stop number late is = grind (arith, nat_tests)
+
+pub stopped_call_fails : StoppedCallFails
+stopped_call_fails old new gate body call keep some early told as_told fed made =
+    let past = old.told.history in
+    let works = append_calls gate body in
+    let stop : StopOrder = record { call = call; keep = keep; made_before = length past.calls } in
+    let now_is : new.told.history ≡ with_calls past (made_well works) = made_history past new.told.history works made in
+    let follows : replay.FollowsHistory new.told.history new.told.now = as_told fed (ap (λ (h : DiskHistory). h.stopped_before) now_is ∙ told.first) in
+    let here = subst (λ (h : DiskHistory). replay.FailAsTold h.made_with.fail h.last_stop 1 h.calls) now_is follows.failed in
+    let none = subst (λ (fail : List ℕ). replay.FailAsTold fail past.last_stop 1 (past.calls ++ made_well works)) told.none_listed here in
+    let stopped = subst (λ (s : Option StopOrder). replay.FailAsTold [] s 1 (past.calls ++ made_well works)) told.stop none in
+    let added = fail_as_told-behind [] (Some stop) 1 past.calls (made_well works) stopped in
+    too_late (stop.made_before + stop.call) (1 + length past.calls + 1 + 1 + 1) (omega (arith, early)) added.1.1.1.0

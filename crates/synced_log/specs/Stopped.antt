@@ -7,7 +7,9 @@ use Rattle.crash_disk.specs.Told.{MayLeave}
 use Rattle.entry_frames.specs.Durable.{Durable, after}
 use Rattle.entry_frames.specs.Records.{Record}
 use Rattle.synced_log.specs.declared.owner.Owner.{Owner}
+use Rattle.synced_log.specs.Calls.{after_calls}
 use Rattle.synced_log.specs.Journal.{IsGroupOf, body_of, shape_of}
+use Rattle.synced_log.specs.Standing.{append_calls}
 use Rattle.synced_log.specs.States.{HoldsTo, OpensTo}
 use Rattle.synced_log.specs.Stops.{StopsAppend}
 
@@ -31,3 +33,8 @@ abbrev pub StoppedAppend : Type 0
 StoppedAppend = (old new : DiskInMemory) (gate : ℕ) (o : Owner) (d : Durable) (records : List Record) (call : ℕ) (keep : Bool) → HoldsTo old.told.now.bytes gate o d → IsGroupOf (shape_of o) d records
     → call ≢ 0 → IsToldToStop old.told.history call keep → IsAsTold new → new.starved ≡ false → MayLeave new.told.now (image_of new)
     → (stops : StopsInMemory old new gate (body_of o.k records)) → StopDecides old new gate o d records call keep stops
+
+-- On such a disk, told just before to stop at one of the four calls of `append`, not all of them are made.
+abbrev pub StoppedCallFails : Type 0
+StoppedCallFails = (old new : DiskInMemory) (gate : ℕ) (body : List ℕ) (call : ℕ) (keep : Bool) → call ≢ 0 → call ≤ 4 → IsToldToStop old.told.history call keep → IsAsTold new → new.starved ≡ false
+    → Some new.told.history ≡ after_calls (Some old.told.history) (append_calls gate body) → ⊥

@@ -6,11 +6,13 @@ use Rattle.std.proofs.lemmas.Bool.Decides.{nat_tests}
 use Rattle.std.proofs.lemmas.List.Folds.{list_any_none}
 use Rattle.craft_base.specs.Shape.{Shape}
 use Rattle.world_model.specs.Schedule.{TextLine, lines_of, onto_first, line_in, line_at, most_lines, longest_line}
-use Rattle.world_model.specs.Spelling.{IsNumber, SpellsLine, IsGoodLine}
+use Rattle.world_model.specs.Spelling.{IsNumber, SpellsInner, SpellsLine, IsGoodLine, keep_word}
+use Rattle.world_model.specs.declared.line.Inner.{Inner}
 use Rattle.world_model.specs.declared.line.Inner.TheVariants.{Tick, Take}
 use Rattle.world_model.specs.declared.line.Line.{Line}
-use Rattle.world_model.specs.declared.line.Line.TheVariants.{Do}
-use Rattle.world_model.proofs.InnerLines.{number_without, SpellsLine-read, read-SpellsLine}
+use Rattle.world_model.specs.declared.line.Line.TheVariants.{Do, Down, Up, Show, Stop}
+use Rattle.world_model.proofs.InnerLines.{number_without}
+use Rattle.world_model.proofs.ScheduleLines.{SpellsLine-read, read-SpellsLine}
 use Rattle.world_model.proofs.Inputs.{lines_of-line, good_line}
 
 abbrev is_feed : ℕ → Bool
@@ -30,10 +32,23 @@ number_on_line : (word : List ℕ) (n : ℕ) → IsNumber word n → list_any is
 number_on_line word n h = list_any_none is_feed word (number_without 10 word n (omega arith) h)
 
 -- a spelling has no line feed
-SpellsLine-no_feed : (line : List ℕ) (event : Line) → SpellsLine line event → list_any is_feed line ≡ false
-SpellsLine-no_feed line (Do (Tick member word)) (i, w, is_i, is_w, is) =
+SpellsInner-no_feed : (text : List ℕ) (inner : Inner) → SpellsInner text inner → list_any is_feed text ≡ false
+SpellsInner-no_feed text (Tick member word) (i, w, is_i, is_w, is) =
     ap (list_any is_feed) is ∙ none_of_both i (32 ∷ w) (number_on_line i member is_i) (number_on_line w word is_w)
-SpellsLine-no_feed line (Do (Take frame)) (m, is_m, is) = ap (list_any is_feed) is ∙ number_on_line m frame is_m
+SpellsInner-no_feed text (Take frame) (m, is_m, is) = ap (list_any is_feed) is ∙ number_on_line m frame is_m
+
+keep_word-no_feed : (keep : Bool) (text : List ℕ) → list_any is_feed text ≡ false → list_any is_feed (keep_word keep ++ 32 ∷ text) ≡ false
+keep_word-no_feed false text none = none
+keep_word-no_feed true text none = none
+
+SpellsLine-no_feed : (text : List ℕ) (line : Line) → SpellsLine text line → list_any is_feed text ≡ false
+SpellsLine-no_feed text (Do inner) spelled = SpellsInner-no_feed text inner spelled
+SpellsLine-no_feed text (Down member) (i, is_i, is) = ap (list_any is_feed) is ∙ number_on_line i member is_i
+SpellsLine-no_feed text (Up member) (i, is_i, is) = ap (list_any is_feed) is ∙ number_on_line i member is_i
+SpellsLine-no_feed text (Show member) (i, is_i, is) = ap (list_any is_feed) is ∙ number_on_line i member is_i
+SpellsLine-no_feed text (Stop call keep inner) (c, e, is_c, is_e, is) =
+    ap (list_any is_feed) is
+    ∙ none_of_both c (32 ∷ (keep_word keep ++ 32 ∷ e)) (number_on_line c call is_c) (keep_word-no_feed keep e (SpellsInner-no_feed e inner is_e))
 
 -- the bytes of a first line that has its line feed, and what comes after them
 abbrev EndsAt : List ℕ → TextLine → List TextLine → Type 0

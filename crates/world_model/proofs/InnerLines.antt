@@ -1,6 +1,6 @@
--- Lines of words: what reads a line and what spells it say the same.
+-- What is to happen to a member: what reads its words and what spells them say the same.
 use Rattle.std.proofs.Common.{◌≡◌, ℕ, ◌<◌, ◌≤◌, List, [], ◌∷◌, ◌++◌, Bool, true, false, refl, ap, ◌∙◌, sym, subst, arith, Option, None, Some}
-use Rattle.std.specs.Prelude.{◌==◌, ◌↔◌, nat_le, nat_lt, codes, if◌then◌else◌}
+use Rattle.std.specs.Prelude.{◌==◌, nat_le, nat_lt, codes, if◌then◌else◌}
 use Rattle.std.specs.Char.{is_ascii_digit}
 use Rattle.std.specs.Fmt.{decimal}
 use Rattle.std.specs.List.{All, slice_split}
@@ -11,13 +11,10 @@ use Rattle.std.proofs.lemmas.List.Splits.{slice_split_none, slice_split_at, join
 use Rattle.std.proofs.lemmas.Slice.Eq.{bytes_eq-Decides}
 use Rattle.craft_base.specs.Shape.{Shape, members_of}
 use Rattle.world_model.specs.Numbers.{number_of}
-use Rattle.std.specs.Option.{option_map}
-use Rattle.world_model.specs.Schedule.{inner_of_words, line_in, tick_line, take_line, tick_of, take_of}
-use Rattle.world_model.specs.Spelling.{IsNumber, IsInnerOf, IsLineOf, SpellsInner, SpellsLine, spaced}
+use Rattle.world_model.specs.Schedule.{inner_of_words, tick_line, take_line, tick_of, take_of}
+use Rattle.world_model.specs.Spelling.{IsNumber, IsInnerOf, SpellsInner, spaced}
 use Rattle.world_model.specs.declared.line.Inner.{Inner}
 use Rattle.world_model.specs.declared.line.Inner.TheVariants.{Tick, Take}
-use Rattle.world_model.specs.declared.line.Line.{Line}
-use Rattle.world_model.specs.declared.line.Line.TheVariants.{Do}
 use Rattle.world_model.proofs.Numerals.{numeral_digits}
 use Rattle.world_model.proofs.Spelling.{both_parts, IsNumber-numeral, IsNumber-small, IsNumber-decimal, IsNumber-read, read-IsNumber, decimal-IsNumber}
 
@@ -33,23 +30,23 @@ no_digit c (byte ∷ bytes) low digits =
 pub number_without : (c : ℕ) (word : List ℕ) (n : ℕ) → c < 48 → IsNumber word n → All (λ byte. (byte == c) ≡ false) word
 number_without c word n low h = no_digit c word low (numeral_digits word (IsNumber-numeral word n h))
 
-abbrev is_blank : ℕ → Bool
+abbrev pub is_blank : ℕ → Bool
 is_blank byte = byte == 32
 
 -- a number before a blank is a word, and a number at the end is the last
-number_first : (word : List ℕ) (n : ℕ) (rest : List ℕ) → IsNumber word n → slice_split is_blank (word ++ 32 ∷ rest) ≡ word ∷ slice_split is_blank rest
+pub number_first : (word : List ℕ) (n : ℕ) (rest : List ℕ) → IsNumber word n → slice_split is_blank (word ++ 32 ∷ rest) ≡ word ∷ slice_split is_blank rest
 number_first word n rest h = slice_split_at is_blank word 32 rest (number_without 32 word n (omega arith) h) refl
 
-number_last : (word : List ℕ) (n : ℕ) → IsNumber word n → slice_split is_blank word ≡ word ∷ []
+pub number_last : (word : List ℕ) (n : ℕ) → IsNumber word n → slice_split is_blank word ≡ word ∷ []
 number_last word n h = slice_split_none is_blank word (number_without 32 word n (omega arith) h)
 
-tick_words : (i w : List ℕ) (member word : ℕ) → IsNumber i member → IsNumber w word
+pub tick_words : (i w : List ℕ) (member word : ℕ) → IsNumber i member → IsNumber w word
     → slice_split is_blank (spaced (codes "tick" ∷ i ∷ w ∷ [])) ≡ codes "tick" ∷ i ∷ w ∷ []
 tick_words i w member word is_i is_w =
     let after : slice_split is_blank (i ++ 32 ∷ w) ≡ i ∷ w ∷ [] = number_first i member w is_i ∙ ap (λ words. i ∷ words) (number_last w word is_w) in
     ap (λ words. codes "tick" ∷ words) after
 
-take_words : (m : List ℕ) (frame : ℕ) → IsNumber m frame → slice_split is_blank (spaced (codes "take" ∷ m ∷ [])) ≡ codes "take" ∷ m ∷ []
+pub take_words : (m : List ℕ) (frame : ℕ) → IsNumber m frame → slice_split is_blank (spaced (codes "take" ∷ m ∷ [])) ≡ codes "take" ∷ m ∷ []
 take_words m frame is_m = ap (λ words. codes "take" ∷ words) (number_last m frame is_m)
 
 passes_tick : (shape : Shape) (i w : Option ℕ) (member word : ℕ) → i ≡ Some member → w ≡ Some word → member < members_of shape
@@ -71,11 +68,11 @@ passes_take m frame is_m first = ap take_of is_m ∙ passes (nat_le 1 frame) (Ta
   above a b h = grind (arith, nat_tests)
 
 -- what the words of a line say that is to happen
-abbrev inner_in : Shape → List ℕ → Option Inner
+abbrev pub inner_in : Shape → List ℕ → Option Inner
 inner_in shape line = inner_of_words shape (slice_split is_blank line)
 
 -- what is spelled is read
-SpellsInner-read : (shape : Shape) (line : List ℕ) (inner : Inner) → SpellsInner line inner → IsInnerOf shape inner → inner_in shape line ≡ Some inner
+pub SpellsInner-read : (shape : Shape) (line : List ℕ) (inner : Inner) → SpellsInner line inner → IsInnerOf shape inner → inner_in shape line ≡ Some inner
 SpellsInner-read shape line (Tick member word) (i, w, is_i, is_w, is) (inside, _, _) =
     ap (inner_in shape) is
     ∙ ap (inner_of_words shape) (tick_words i w member word is_i is_w)
@@ -109,7 +106,7 @@ took (Some frame) inner h =
       above a b h = grind (arith, nat_tests)
 
 -- what is read is spelled, and in range
-abbrev IsSpelled : Shape → List ℕ → Inner → Type 0
+abbrev pub IsSpelled : Shape → List ℕ → Inner → Type 0
 IsSpelled shape line inner = SpellsInner line inner × IsInnerOf shape inner
 
 tick_spelled : (shape : Shape) (line name i w : List ℕ) (inner : Inner) → spaced (name ∷ i ∷ w ∷ []) ≡ line
@@ -133,19 +130,19 @@ take_spelled shape line name m inner is h =
     let whole : line ≡ spaced (codes "take" ∷ m ∷ []) = sym is ∙ ap (λ start. spaced (start ∷ m ∷ [])) named in
     subst (λ e. IsSpelled shape line e) same ((m, spells_m, whole), (first, IsNumber-small m frame spells_m))
 
-by_words : (shape : Shape) (line : List ℕ) (words : List (List ℕ)) (inner : Inner) → spaced words ≡ line
+pub inner_by_words : (shape : Shape) (line : List ℕ) (words : List (List ℕ)) (inner : Inner) → spaced words ≡ line
     → inner_of_words shape words ≡ Some inner → IsSpelled shape line inner
-by_words shape line [] inner is h = cc
-by_words shape line (name ∷ []) inner is h = cc
-by_words shape line (name ∷ m ∷ []) inner is h = take_spelled shape line name m inner is h
-by_words shape line (name ∷ i ∷ w ∷ []) inner is h = tick_spelled shape line name i w inner is h
-by_words shape line (name ∷ i ∷ w ∷ more ∷ words) inner is h = cc
+inner_by_words shape line [] inner is h = cc
+inner_by_words shape line (name ∷ []) inner is h = cc
+inner_by_words shape line (name ∷ m ∷ []) inner is h = take_spelled shape line name m inner is h
+inner_by_words shape line (name ∷ i ∷ w ∷ []) inner is h = tick_spelled shape line name i w inner is h
+inner_by_words shape line (name ∷ i ∷ w ∷ more ∷ words) inner is h = cc
 
-read-SpellsInner : (shape : Shape) (line : List ℕ) (inner : Inner) → inner_in shape line ≡ Some inner → SpellsInner line inner × IsInnerOf shape inner
-read-SpellsInner shape line inner h = by_words shape line (slice_split is_blank line) inner (join_with_byte-slice_split 32 line) h
+pub read-SpellsInner : (shape : Shape) (line : List ℕ) (inner : Inner) → inner_in shape line ≡ Some inner → SpellsInner line inner × IsInnerOf shape inner
+read-SpellsInner shape line inner h = inner_by_words shape line (slice_split is_blank line) inner (join_with_byte-slice_split 32 line) h
 
 -- it has one spelling
-one_inner : (line other : List ℕ) (inner : Inner) → SpellsInner line inner → SpellsInner other inner → line ≡ other
+pub one_inner : (line other : List ℕ) (inner : Inner) → SpellsInner line inner → SpellsInner other inner → line ≡ other
 one_inner line other (Tick member word) (i, w, is_i, is_w, is) (j, v, is_j, is_v, as_well) =
     let same_i : i ≡ j = IsNumber-decimal i member is_i ∙ sym (IsNumber-decimal j member is_j) in
     let same_w : w ≡ v = IsNumber-decimal w word is_w ∙ sym (IsNumber-decimal v word is_v) in
@@ -155,44 +152,9 @@ one_inner line other (Take frame) (m, is_m, is) (l, is_l, as_well) =
     is ∙ ap (λ x. spaced (codes "take" ∷ x ∷ [])) same ∙ sym as_well
 
 -- and has one where it is in range
-some_inner : (shape : Shape) (inner : Inner) → IsInnerOf shape inner → (line : List ℕ) × SpellsInner line inner
+pub some_inner : (shape : Shape) (inner : Inner) → IsInnerOf shape inner → (line : List ℕ) × SpellsInner line inner
 some_inner shape (Tick member word) (inside, small, fits) = (
   spaced (codes "tick" ∷ decimal member ∷ decimal word ∷ []),
   (decimal member, decimal word, decimal-IsNumber member small, decimal-IsNumber word fits, refl),
 )
 some_inner shape (Take frame) (first, fits) = (spaced (codes "take" ∷ decimal frame ∷ []), (decimal frame, decimal-IsNumber frame fits, refl))
-
--- ---- lines
-
-undone : (found : Option Inner) (inner : Inner) → option_map Do found ≡ Some (Do inner) → found ≡ Some inner
-undone None inner e = cc
-undone (Some other) inner e = cc
-
-pub SpellsLine-read : (shape : Shape) (text : List ℕ) (line : Line) → SpellsLine text line → IsLineOf shape line → line_in shape text ≡ Some line
-SpellsLine-read shape text (Do inner) spelled inside = ap (option_map Do) (SpellsInner-read shape text inner spelled inside)
-
-pub read-SpellsLine : (shape : Shape) (text : List ℕ) (line : Line) → line_in shape text ≡ Some line → SpellsLine text line × IsLineOf shape line
-read-SpellsLine shape text (Do inner) read = read-SpellsInner shape text inner (undone (inner_in shape text) inner read)
-
--- a text is a line exactly where it spells one in range
-pub text_is_line : (shape : Shape) (text : List ℕ) (line : Line) → (line_in shape text ≡ Some line) ↔ (SpellsLine text line × IsLineOf shape line)
-text_is_line shape text line = (read-SpellsLine shape text line, λ h. SpellsLine-read shape text line h.0 h.1)
-
--- and else none
-pub text_is_none : (shape : Shape) (text : List ℕ) → (line_in shape text ≡ None) ↔ ((line : Line) → SpellsLine text line → IsLineOf shape line → ⊥)
-text_is_none shape text = (
-  λ none line spelled inside. not_both (line_in shape text) line none (SpellsLine-read shape text line spelled inside),
-  λ never. none_else (line_in shape text) (λ line h. let s = read-SpellsLine shape text line h in never line s.0 s.1),
-) where
-  not_both : (found : Option Line) (line : Line) → found ≡ None → found ≡ Some line → ⊥
-  not_both found line none some = cc
-
-  none_else : (found : Option Line) → ((line : Line) → found ≡ Some line → ⊥) → found ≡ None
-  none_else None never = refl
-  none_else (Some line) never = absurd (never line refl)
-
-pub one_text : (text other : List ℕ) (line : Line) → SpellsLine text line → SpellsLine other line → text ≡ other
-one_text text other (Do inner) one another = one_inner text other inner one another
-
-pub some_text : (shape : Shape) (line : Line) → IsLineOf shape line → (text : List ℕ) × SpellsLine text line
-some_text shape (Do inner) inside = some_inner shape inner inside

@@ -3,6 +3,7 @@ mod OutputExamples
 pub mod Frames
 pub mod Positions
 pub mod Turns
+pub mod Stops
 pub mod Recorded
 pub mod Applying
 pub mod Ranges
@@ -11,6 +12,7 @@ pub mod Numerals
 pub mod Runs
 pub mod Spelling
 pub mod InnerLines
+pub mod ScheduleLines
 pub mod BadLines
 pub mod Readings
 pub mod CommandWords

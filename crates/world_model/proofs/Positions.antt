@@ -1,6 +1,5 @@
 -- Lists that are read by position.
-use Rattle.std.proofs.Common.{◌≡◌, ◌≢◌, ℕ, zero, suc, ◌+◌, ◌<◌, List, [], ◌∷◌, map, Some, slice_get, slice_set, refl, ap, ◌∙◌, arith}
-use Rattle.std.specs.List.{range_with_len}
+use Rattle.std.proofs.Common.{◌≡◌, ◌≢◌, ℕ, zero, suc, ◌<◌, List, [], ◌∷◌, replicate, Some, slice_get, slice_set, refl, ap, arith}
 use Rattle.std.proofs.lemmas.Option.{same_Some}
 
 -- what is put at a position is there, and what is elsewhere stays
@@ -16,12 +15,15 @@ set_there (z ∷ xs) zero (suc k) y apart = refl
 set_there (z ∷ xs) (suc i) zero y apart = refl
 set_there (z ∷ xs) (suc i) (suc k) y apart = set_there xs i k y (λ e. apart (ap suc e))
 
--- what is made at a position of a list that is made of a stretch of numbers
-pub made_at :
-    {X : Type 0} (f : ℕ → X) (a n k : ℕ) (x : X) → slice_get (map f (range_with_len a n)) k ≡ Some x → (k < n) × (f (a + k) ≡ x)
-made_at f a zero k x e = cc
-made_at f a (suc n) zero x e = let at_first : a + 0 ≡ a = omega arith in (omega arith, ap f at_first ∙ same_Some (f a) x e)
-made_at f a (suc n) (suc k) x e =
-    let rest = made_at f (a + 1) n k x e in
-    let there : a + suc k ≡ (a + 1) + k = omega arith in
-    (omega (arith, rest.0), ap f there ∙ rest.1)
+pub set_twice : {X : Type 0} (xs : List X) (i : ℕ) (x y : X) → slice_set (slice_set xs i x) i y ≡ slice_set xs i y
+set_twice [] i x y = refl
+set_twice (z ∷ xs) zero x y = refl
+set_twice (z ∷ xs) (suc i) x y = ap (λ rest. z ∷ rest) (set_twice xs i x y)
+
+-- what stands at a position of a list that repeats one thing
+pub repeated_at : {X : Type 0} (n : ℕ) (x : X) (k : ℕ) (y : X) → slice_get (replicate n x) k ≡ Some y → (k < n) × (x ≡ y)
+repeated_at zero x k y e = cc
+repeated_at (suc n) x zero y e = (omega arith, same_Some x y e)
+repeated_at (suc n) x (suc k) y e =
+    let rest = repeated_at n x k y e in
+    (omega (arith, rest.0), rest.1)

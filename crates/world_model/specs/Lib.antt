@@ -2,6 +2,7 @@ pub mod Nodes
 pub mod Rules
 pub mod Turn
 pub mod World
+pub mod Tallies
 pub mod Lines
 pub mod Numbers
 pub mod Schedule

@@ -4,10 +4,13 @@ use Rattle.std.specs.Fmt.{decimal}
 use Rattle.hex.specs.Hex.{encode_lower}
 use Rattle.craft_base.specs.Shape.{Shape}
 use Rattle.craft_base.specs.declared.command.Entry.{Entry}
+use Rattle.craft_base.specs.declared.command.Op.{Op}
+use Rattle.craft_base.specs.declared.command.Op.TheVariants as ops
 use Rattle.craft_base.specs.declared.command.Form.{Form}
 use Rattle.craft_base.specs.declared.command.Form.TheVariants.{Whole, Part}
 use Rattle.craft_base.specs.declared.command.Reply.{Reply}
 use Rattle.craft_base.specs.declared.command.Reply.TheVariants as replies
+use Rattle.entry_frames.specs.Durable.{Durable}
 use Rattle.entry_frames.specs.declared.peer.Peer.{Peer}
 use Rattle.entry_frames.specs.declared.peer.Peer.TheVariants as peers
 use Rattle.entry_frames.specs.declared.message.Message.{Message}
@@ -19,7 +22,7 @@ use Rattle.entry_frames.specs.declared.role.Role.TheVariants.{Follower, Candidat
 use Rattle.world_model.specs.World.{World, Happened, start, step}
 use Rattle.world_model.specs.declared.line.Line.{Line}
 use Rattle.world_model.specs.declared.verdict.Verdict.{Verdict}
-use Rattle.world_model.specs.declared.verdict.Verdict.TheVariants.{Done, NoFrame}
+use Rattle.world_model.specs.declared.verdict.Verdict.TheVariants.{Done, NoFrame, Skip, Stop}
 
 -- words between single blanks, and a line feed
 abbrev pub line_of : List (List ℕ) → List ℕ
@@ -38,6 +41,8 @@ role_word Leader = codes "leader"
 abbrev pub verdict_word : Verdict → List ℕ
 verdict_word Done = codes "done"
 verdict_word NoFrame = codes "none"
+verdict_word Skip = codes "skip"
+verdict_word Stop = codes "stop"
 
 abbrev pub yes_or_no : Bool → List ℕ
 yes_or_no true = codes "yes"
@@ -128,9 +133,47 @@ abbrev pub output_lines : ℕ → ℕ → List Output → List ℕ
 output_lines me frame [] = []
 output_lines me frame (output ∷ outputs) = output_line me frame output ++ output_lines me (next_frame frame output) outputs
 
--- an event's number and verdict, and a line for each output; frame is the number of the next one that is sent
+-- ---- what is shown
+
+abbrev pub op_word : Op → List ℕ
+op_word ops.Noop = codes "noop"
+op_word ops.Put = codes "put"
+op_word (ops.PutIf version) = codes "putif=" ++ decimal version
+op_word ops.Del = codes "del"
+op_word ops.Get = codes "get"
+
+-- the bytes that are held of a value
+abbrev pub form_bytes : Form → List ℕ
+form_bytes (Whole bytes) = bytes
+form_bytes (Part bytes) = bytes
+
+-- an entry of a log: its index, its term, its form, its head, and the bytes that are held
+abbrev pub entry_words : ℕ → Entry → List (List ℕ)
+entry_words index e =
+    codes "entry" ∷ decimal index ∷ decimal e.term ∷ form_letter e.form ∷ op_word e.head.op ∷ decimal e.head.client ∷ decimal e.head.seq
+    ∷ bytes_word e.head.key ∷ decimal e.head.vlen ∷ bytes_word (form_bytes e.form) ∷ []
+
+-- a line for each entry, the first of which has that index
+abbrev pub entry_lines : ℕ → List Entry → List ℕ
+entry_lines index [] = []
+entry_lines index (e ∷ log) = line_of (entry_words index e) ++ entry_lines (index + 1) log
+
+-- what outlives a crash of a member: its term, its vote, its last index and its commit index, and its log
+abbrev pub show_lines : ℕ → Durable → List ℕ
+show_lines me d =
+    line_of (codes "node" ∷ decimal me ∷ decimal d.term ∷ member_word d.vote ∷ decimal (length d.log) ∷ decimal d.commit ∷ [])
+    ++ entry_lines 1 d.log
+
+abbrev pub shown_lines : ℕ → Option Durable → List ℕ
+shown_lines me None = []
+shown_lines me (Some d) = show_lines me d
+
+-- ---- events
+
+-- an event's number and verdict, a line for each output, and what is shown; frame is the number of the next one that is sent
 abbrev pub event_lines : ℕ → ℕ → Happened → List ℕ
-event_lines number frame h = line_of (decimal number ∷ verdict_word h.verdict ∷ []) ++ output_lines h.member frame h.outputs
+event_lines number frame h =
+    line_of (decimal number ∷ verdict_word h.verdict ∷ []) ++ output_lines h.member frame h.outputs ++ shown_lines h.member h.shown
 
 -- what is printed of an event that happened to a world
 abbrev pub event_text : ℕ → World → Happened → List ℕ

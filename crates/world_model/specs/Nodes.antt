@@ -23,15 +23,16 @@ pub record Node : Type 0 where
   pub durable : Durable
   pub volatile : Volatile
 
+-- what a crash has just lost: nothing was heard, and nobody is known to lead
+abbrev pub fresh : Volatile
+fresh = record { role = Follower; quiet = 0; hint = None; heard = [] }
+
+abbrev pub node_with : Shape → ℕ → Durable → Volatile → Node
+node_with shape me durable volatile = record { shape = shape; me = me; durable = durable; volatile = volatile }
+
 -- a member that has just started over what outlived its last run
 abbrev pub started : Shape → ℕ → Durable → Node
-started shape me durable =
-    record {
-      shape = shape;
-      me = me;
-      durable = durable;
-      volatile = record { role = Follower; quiet = 0; hint = None; heard = [] };
-    }
+started shape me durable = node_with shape me durable fresh
 
 -- the node with one more thing heard
 abbrev pub node_hearing : Heard → Node → Node

@@ -11,7 +11,7 @@ use Rattle.entry_frames.specs.declared.message.Message.{Message}
 use Rattle.world_model.specs.Nodes.{Node}
 use Rattle.world_model.specs.Safety.{IsRun}
 use Rattle.world_model.specs.Turn.{Event, Tick, Frame, Call, act_of}
-use Rattle.world_model.specs.World.{World, run}
+use Rattle.world_model.specs.World.{Member, World, node_of, run}
 use Rattle.world_model.specs.declared.line.Line.{Line}
 
 -- a term in which something was said or proposed
@@ -51,9 +51,11 @@ EveryTurnCanBeApplied =
     (shape : Shape) (member : ℕ) (n : Node) (event : Event) → IsShape shape → NodeInRange shape member n → EventInRange shape member event →
     CanApplyAll shape n.durable (act_of event n).records
 
--- each node is in range, and each message that was ever sent has a spelling
+-- the world is of that cluster, each of its members is in range, as the node as which it runs or would start, and each message that
+-- was ever sent has a spelling
 pub record InRange (shape : Shape) (w : World) : Type 0 where
-  pub nodes : (member : ℕ) (n : Node) → slice_get w.nodes member ≡ Some n → NodeInRange shape member n
+  pub of_shape : w.shape ≡ shape
+  pub members : (me : ℕ) (m : Member) → slice_get w.members me ≡ Some m → NodeInRange shape me (node_of w.shape me m)
   pub sent : All (HasSpelling shape) w.sent
 
 -- so it is of every run of every cluster

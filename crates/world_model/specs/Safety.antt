@@ -1,12 +1,11 @@
 -- What holds of every run.
 use Rattle.std.specs.Prelude.{◌≡◌, ℕ, List, take, All, Option, None, Some, slice_get}
-use Rattle.craft_base.specs.Shape.{Shape}
+use Rattle.craft_base.specs.Shape.{Shape, IsShape}
 use Rattle.entry_frames.specs.declared.role.Role.{Role}
 use Rattle.entry_frames.specs.declared.role.Role.TheVariants.{Preparing, Leader}
-use Rattle.world_model.specs.Nodes.{Node}
+use Rattle.world_model.specs.Nodes.{Volatile}
 use Rattle.world_model.specs.Spelling.{IsLineOf}
-use Rattle.craft_base.specs.Shape.{IsShape}
-use Rattle.world_model.specs.World.{run}
+use Rattle.world_model.specs.World.{Member, run}
 use Rattle.world_model.specs.declared.line.Line.{Line}
 
 -- it has won its term: it leads it, or prepares to
@@ -15,14 +14,19 @@ HasWon Preparing = Unit {0}
 HasWon Leader = Unit {0}
 HasWon _ = ⊥
 
--- the node leads that term, or prepares to
-abbrev pub LeadsTerm : Option Node → ℕ → Type 0
+-- it runs, and has won its term
+abbrev pub RunsWon : Option Volatile → Type 0
+RunsWon None = ⊥
+RunsWon (Some volatile) = HasWon volatile.role
+
+-- the member leads that term, or prepares to
+abbrev pub LeadsTerm : Option Member → ℕ → Type 0
 LeadsTerm None term = ⊥
-LeadsTerm (Some n) term = HasWon n.volatile.role × (n.durable.term ≡ term)
+LeadsTerm (Some m) term = RunsWon m.running × (m.durable.term ≡ term)
 
 -- the member led that term, or prepared to, after some front of the events
 abbrev pub EverLed : Shape → List Line → ℕ → ℕ → Type 0
-EverLed shape events term member = (count : ℕ) × LeadsTerm (slice_get (run shape (take count events)).nodes member) term
+EverLed shape events term member = (count : ℕ) × LeadsTerm (slice_get (run shape (take count events)).members member) term
 
 -- no term has two members that were ever its leader
 abbrev pub OneLeaderATerm : Shape → List Line → Type 0

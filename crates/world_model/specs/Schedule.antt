@@ -8,7 +8,7 @@ use Rattle.world_model.specs.Numbers.{number_of}
 use Rattle.world_model.specs.declared.line.Inner.{Inner}
 use Rattle.world_model.specs.declared.line.Inner.TheVariants.{Tick, Take}
 use Rattle.world_model.specs.declared.line.Line.{Line}
-use Rattle.world_model.specs.declared.line.Line.TheVariants.{Do}
+use Rattle.world_model.specs.declared.line.Line.TheVariants.{Do, Down, Up, Show, Stop}
 
 -- the most lines of a schedule, and the most bytes of a line, its line feed counted
 abbrev pub most_lines : ℕ
@@ -40,9 +40,36 @@ inner_of_words shape (name ∷ member ∷ word ∷ []) = tick_line shape name me
 inner_of_words shape (name ∷ frame ∷ []) = take_line name frame
 inner_of_words shape _ = None
 
+-- a member of the cluster
+abbrev pub member_of : Shape → Option ℕ → Option ℕ
+member_of shape None = None
+member_of shape (Some member) = if nat_lt member (members_of shape) then Some member else None
+
+-- the words behind `down`, `up` or `show`: a member alone
+abbrev pub member_of_words : Shape → List (List ℕ) → Option ℕ
+member_of_words shape (member ∷ []) = member_of shape (number_of member)
+member_of_words shape _ = None
+
+-- `stop c b e`: the call is 1 to 4, the digit 0 or 1
+abbrev pub stop_of : Option ℕ → Option ℕ → Option Inner → Option Line
+stop_of (Some call) (Some digit) (Some inner) =
+    if nat_le 1 call && nat_le call 4 && nat_le digit 1 then Some (Stop call (digit == 1) inner) else None
+stop_of _ _ _ = None
+
+-- the words behind `stop`
+abbrev pub stop_of_words : Shape → List (List ℕ) → Option Line
+stop_of_words shape (call ∷ digit ∷ words) = stop_of (number_of call) (number_of digit) (inner_of_words shape words)
+stop_of_words shape _ = None
+
 -- what the words of a line say
 abbrev pub line_of_words : Shape → List (List ℕ) → Option Line
-line_of_words shape words = option_map Do (inner_of_words shape words)
+line_of_words shape [] = None
+line_of_words shape (name ∷ words) =
+    if bytes_eq name (codes "down") then option_map Down (member_of_words shape words)
+    else if bytes_eq name (codes "up") then option_map Up (member_of_words shape words)
+    else if bytes_eq name (codes "show") then option_map Show (member_of_words shape words)
+    else if bytes_eq name (codes "stop") then stop_of_words shape words
+    else option_map Do (inner_of_words shape (name ∷ words))
 
 -- what a line says, without its line feed, or nothing where it is outside the grammar
 abbrev pub line_in : Shape → List ℕ → Option Line

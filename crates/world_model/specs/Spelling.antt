@@ -1,5 +1,5 @@
 -- How numbers, events, schedules and commands are spelled, by cases on their bytes.
-use Rattle.std.specs.Prelude.{◌≡◌, ◌≢◌, ℕ, ◌+◌, ◌*◌, ◌^◌, ◌<◌, ◌≤◌, List, [], ◌∷◌, ◌++◌, length, codes}
+use Rattle.std.specs.Prelude.{◌≡◌, ◌≢◌, ℕ, ◌+◌, ◌*◌, ◌^◌, ◌<◌, ◌≤◌, List, [], ◌∷◌, ◌++◌, length, codes, Bool, true, false}
 use Rattle.std.specs.List.{join_with_byte}
 use Rattle.craft_base.specs.Shape.{Shape, IsShape, members_of}
 use Rattle.world_model.specs.Schedule.{most_lines, longest_line}
@@ -8,7 +8,7 @@ use Rattle.world_model.specs.declared.command.Command.TheVariants.{Replay, Split
 use Rattle.world_model.specs.declared.line.Inner.{Inner}
 use Rattle.world_model.specs.declared.line.Inner.TheVariants.{Tick, Take}
 use Rattle.world_model.specs.declared.line.Line.{Line}
-use Rattle.world_model.specs.declared.line.Line.TheVariants.{Do}
+use Rattle.world_model.specs.declared.line.Line.TheVariants.{Do, Down, Up, Show, Stop}
 
 -- digits, and the number that they make: a digit counts ten times what it would count one place further right
 abbrev pub AreDigits : List ℕ → ℕ → Type 0
@@ -37,12 +37,35 @@ abbrev pub IsInnerOf : Shape → Inner → Type 0
 IsInnerOf shape (Tick member word) = (member < members_of shape) × (member < 2 ^ 64) × (word < 2 ^ 64)
 IsInnerOf shape (Take frame) = (1 ≤ frame) × (frame < 2 ^ 64)
 
--- the text of a line, and the ranges of its numbers
+-- a word and a member
+abbrev pub SpellsMember : List ℕ → List ℕ → ℕ → Type 0
+SpellsMember word text member = (i : List ℕ) × IsNumber i member × (text ≡ spaced (word ∷ i ∷ []))
+
+-- whether what is pending is kept, as a digit
+abbrev pub keep_word : Bool → List ℕ
+keep_word false = codes "0"
+keep_word true = codes "1"
+
+-- the text of a line: what is to happen, `down i`, `up i`, `show i`, or `stop c b e`
 abbrev pub SpellsLine : List ℕ → Line → Type 0
 SpellsLine text (Do inner) = SpellsInner text inner
+SpellsLine text (Down member) = SpellsMember (codes "down") text member
+SpellsLine text (Up member) = SpellsMember (codes "up") text member
+SpellsLine text (Show member) = SpellsMember (codes "show") text member
+SpellsLine text (Stop call keep inner) =
+    (c : List ℕ) × (e : List ℕ) × IsNumber c call × SpellsInner e inner × (text ≡ spaced (codes "stop" ∷ c ∷ keep_word keep ∷ e ∷ []))
 
+-- the member is one of the cluster's
+abbrev pub IsMemberOf : Shape → ℕ → Type 0
+IsMemberOf shape member = (member < members_of shape) × (member < 2 ^ 64)
+
+-- the ranges of a line's numbers: a stop is in the first to the fourth device call
 abbrev pub IsLineOf : Shape → Line → Type 0
 IsLineOf shape (Do inner) = IsInnerOf shape inner
+IsLineOf shape (Down member) = IsMemberOf shape member
+IsLineOf shape (Up member) = IsMemberOf shape member
+IsLineOf shape (Show member) = IsMemberOf shape member
+IsLineOf shape (Stop call keep inner) = (1 ≤ call) × (call ≤ 4) × IsInnerOf shape inner
 
 -- a good line with that number, without its line feed, which counts in its length
 abbrev pub IsGoodLine : Shape → ℕ → List ℕ → Line → Type 0

@@ -6,6 +6,7 @@
 mod command;
 mod limits;
 mod line;
+mod tally;
 mod verdict;
 
 ghost use Rattle.std.specs.Prelude.{◌≡◌, ℕ, ◌<◌, ◌^◌, ◌↔◌, List};
@@ -23,6 +24,7 @@ ghost use Rattle.world_model.specs.declared.line.Line.{Line};
 pub use command::Command;
 pub use limits::{LONGEST_LINE, MOST_LINES};
 pub use line::{Inner, Line};
+pub use tally::Tally;
 pub use verdict::Verdict;
 
 /// A word is read as a number exactly where it spells that number. Each number below 2^64 has one spelling, the decimal

@@ -14,5 +14,15 @@ pub enum Inner {
 /// What a line of a schedule asks for.
 #[derive(Clone, Copy, Debug, PartialEq, Eq)]
 pub enum Line {
+    /// It happens.
     Do(Inner),
+    /// The member goes down between two steps.
+    Down(MemberId),
+    /// The member starts anew over what its disk holds.
+    Up(MemberId),
+    /// What outlives a crash of the member is printed.
+    Show(MemberId),
+    /// It happens, and the machine stops in a device call, the first to the fourth (`call` 1 to 4) of those that put a group
+    /// into the journal. What is pending on the disk is kept (`keep`) or spoiled.
+    Stop { call: u8, keep: bool, event: Inner },
 }

@@ -7,4 +7,8 @@ pub enum Verdict {
     Done,
     /// Its frame isn't sent yet.
     NoFrame,
+    /// Its member is down, or is to start and runs.
+    Skip,
+    /// Its member stopped while it was carried out.
+    Stop,
 }

@@ -1,12 +1,50 @@
 -- A turn keeps its node in range, whatever it is told that is in range.
-use Rattle.std.proofs.Common.{ℕ, subst, sym}
+use Rattle.std.proofs.Common.{ℕ, ◌≤◌, nat_lt, sym, subst, arith}
+use Rattle.std.proofs.lemmas.Bool.{cond_both, ltb-true}
 use Rattle.craft_base.specs.Shape.{Shape, IsShape}
+use Rattle.entry_frames.specs.MessageParts.{receiver_byte}
+use Rattle.entry_frames.specs.declared.message.Message.{Message}
+use Rattle.entry_frames.specs.declared.message.Message.TheVariants as messages
+use Rattle.entry_frames.specs.declared.peer.Peer.{Peer}
+use Rattle.entry_frames.specs.declared.peer.Peer.TheVariants as peers
 use Rattle.world_model.specs.Nodes.{Node}
-use Rattle.world_model.specs.Ranges.{NodeInRange, EventInRange}
-use Rattle.world_model.specs.Turn.{Event, Tick, Frame, Call, act_of, act_of_message}
-use Rattle.world_model.proofs.Ranges.Acts.{ActInRange, stays_in_range}
+use Rattle.world_model.specs.Ranges.{NodeInRange, EventInRange, HasSpelling}
+use Rattle.world_model.specs.Rules.Acts.{followed_by}
+use Rattle.world_model.specs.Rules.Terms.{act_of_lower_term, act_of_term}
+use Rattle.world_model.specs.Turn.{Event, Tick, Frame, Call, act_of, act_of_message, act_of_peer}
+use Rattle.world_model.proofs.Frames.{Ends, ends_of}
+use Rattle.world_model.proofs.Turns.{caught_up}
+use Rattle.world_model.proofs.Ranges.Acts.{ActInRange, followed_in_range, stays_in_range}
+use Rattle.world_model.proofs.Ranges.Terms.{lower_term_in_range, term_in_range}
 use Rattle.world_model.proofs.Ranges.Tick.{tick_in_range}
-use Rattle.world_model.proofs.Ranges.Worlds.{message_in_range}
+use Rattle.world_model.proofs.Ranges.Vote.{vote_request_in_range}
+use Rattle.world_model.proofs.Ranges.VoteReply.{vote_reply_in_range}
+
+module _ {shape : Shape} (is : IsShape shape) where
+  -- a message of the node's own term, by what it says
+  peer_in_range :
+      {from to at : ℕ} {n : Node} → Ends shape from to at → NodeInRange shape to n → 1 ≤ n.durable.term →
+      (body : Peer) → ActInRange shape to (act_of_peer n from body)
+  peer_in_range {from = from} ends a begun (peers.Vote last_term last) = vote_request_in_range is a begun from ends.sender ends.apart last_term last
+  peer_in_range {from = from} ends a begun (peers.VoteReply granted) = vote_reply_in_range a from granted
+  peer_in_range ends a begun (peers.Append prev prev_term commit entries) = stays_in_range a
+  peer_in_range ends a begun (peers.Matched prev count mask) = stays_in_range a
+  peer_in_range ends a begun (peers.Refused next) = stays_in_range a
+  peer_in_range ends a begun (peers.Ask start) = stays_in_range a
+  peer_in_range ends a begun (peers.Answer start last slots) = stays_in_range a
+
+  -- a message comes to the member that it is for
+  pub message_in_range : (m : Message) {n : Node} → HasSpelling shape m → NodeInRange shape (receiver_byte m) n → ActInRange shape (receiver_byte m) (act_of_message m n)
+  message_in_range (messages.Peer from to at body) {n = n} spelled a =
+      let ends : Ends shape from to at = ends_of is body spelled in
+      let first : ActInRange shape to (act_of_term at n) = term_in_range is ends a in
+      cond_both (nat_lt at n.durable.term) (act_of_lower_term n from body) (followed_by (act_of_term at n) (λ now. act_of_peer now from body)) (ActInRange shape to)
+      (λ lower. lower_term_in_range is ends a body (ltb-true _ _ lower))
+      (λ current.
+      let begun : 1 ≤ (act_of_term at n).node.durable.term = omega (arith, ends.term.0, caught_up n at current) in
+      followed_in_range (act_of_term at n) (λ now. act_of_peer now from body) first (peer_in_range ends first.node begun body))
+  message_in_range (messages.Request receiver request) spelled a = stays_in_range a
+  message_in_range (messages.Answered sender client seq reply) spelled a = stays_in_range a
 
 pub act_in_range :
     {shape : Shape} → IsShape shape → {member : ℕ} {n : Node} (event : Event) → EventInRange shape member event → NodeInRange shape member n →

@@ -1,106 +1,130 @@
 -- Turns, events and runs keep a world in range.
-use Rattle.std.proofs.Common.{◌≡◌, ℕ, ◌-◌, ◌≤◌, nat_lt, List, [], ◌∷◌, Option, None, Some, slice_get, slice_set, get_or, refl, ap, sym, subst, ◌∙◌, inl, inr, arith}
-use Rattle.std.proofs.lemmas.Bool.{cases_eq, cond_both, ltb-true}
+use Rattle.std.proofs.Common.{◌≡◌, ℕ, ◌-◌, List, [], ◌∷◌, ◌++◌, Option, None, Some, option_map, slice_get, slice_set, get_or, refl, sym, subst, ◌∙◌, inl, inr, arith}
+use Rattle.std.proofs.lemmas.Bool.{cases_eq}
 use Rattle.std.proofs.lemmas.List.Elements.{All-append, All-nil, All-same}
 use Rattle.std.proofs.lemmas.Option.{slice_get_within, get_or_from_slice_get, same_Some}
-use Rattle.craft_base.specs.Shape.{Shape, members_of}
-use Rattle.entry_frames.specs.Durable.{born}
-use Rattle.entry_frames.specs.MessageParts.{receiver_byte}
+use Rattle.craft_base.specs.Shape.{Shape, IsShape, members_of}
+use Rattle.entry_frames.specs.Durable.{Durable}
 use Rattle.entry_frames.specs.declared.message.Message.{Message}
-use Rattle.entry_frames.specs.declared.message.Message.TheVariants as messages
-use Rattle.entry_frames.specs.declared.peer.Peer.{Peer}
-use Rattle.entry_frames.specs.declared.peer.Peer.TheVariants as peers
-use Rattle.world_model.specs.Nodes.{Node, started}
-use Rattle.world_model.specs.Ranges.{IsMember, NodeInRange, HasSpelling, InRange, EveryRunInRange}
-use Rattle.world_model.specs.Rules.Acts.{Act, followed_by}
-use Rattle.world_model.specs.Rules.Terms.{act_of_lower_term, act_of_term}
-use Rattle.craft_base.specs.Shape.{IsShape}
-use Rattle.world_model.specs.Turn.{Event, Tick, Frame, act_of, act_of_message, act_of_peer, turned}
-use Rattle.world_model.specs.World.{World, after_turn, delivery, run_from, start, step, turn_at, turn_of}
+use Rattle.world_model.specs.Nodes.{Volatile, fresh, node_with}
+use Rattle.world_model.specs.Ranges.{EventInRange, IsMember, NodeInRange, HasSpelling, InRange, EveryRunInRange}
+use Rattle.world_model.specs.Turn as turns
+use Rattle.world_model.specs.World.{Aim, Member, World, after_turn, aim_of, becoming, delivery_of, down_as, down_of, down_with, newborn, node_of, run_from, show_as, show_of, start, step, turn_as, turn_at, turn_of, up_as, up_of}
+use Rattle.world_model.specs.declared.line.Inner.{Inner}
 use Rattle.world_model.specs.declared.line.Inner.TheVariants as inners
 use Rattle.world_model.specs.declared.line.Line.{Line}
-use Rattle.world_model.specs.declared.line.Line.TheVariants.{Do}
-use Rattle.world_model.proofs.Frames.{Ends, ends_of}
-use Rattle.world_model.proofs.Positions.{made_at, set_here, set_there}
-use Rattle.world_model.proofs.Turns.{caught_up, sent_among-turned}
-use Rattle.world_model.proofs.Ranges.Acts.{ActInRange, followed_in_range, stays_in_range}
-use Rattle.world_model.proofs.Ranges.Terms.{lower_term_in_range, term_in_range}
-use Rattle.world_model.proofs.Ranges.Tick.{tick_in_range}
-use Rattle.world_model.proofs.Ranges.Vote.{vote_request_in_range}
-use Rattle.world_model.proofs.Ranges.VoteReply.{vote_reply_in_range}
+use Rattle.world_model.specs.declared.line.Line.TheVariants as lines
+use Rattle.world_model.specs.declared.verdict.Verdict.{Verdict}
+use Rattle.world_model.specs.declared.verdict.Verdict.TheVariants.{Done}
+use Rattle.world_model.proofs.Positions.{repeated_at, set_here, set_there}
+use Rattle.world_model.proofs.Stops.{said_before, stops_keep, unsaid}
+use Rattle.world_model.proofs.Turns.{sent_among-turned}
+use Rattle.world_model.proofs.Ranges.Acts.{ActInRange, in_volatile}
+use Rattle.world_model.proofs.Ranges.Turns.{act_in_range}
 
-module _ {shape : Shape} (is : IsShape shape) where
-  -- a message of the node's own term, by what it says
-  peer_in_range :
-      {from to at : ℕ} {n : Node} → Ends shape from to at → NodeInRange shape to n → 1 ≤ n.durable.term →
-      (body : Peer) → ActInRange shape to (act_of_peer n from body)
-  peer_in_range {from = from} ends a begun (peers.Vote last_term last) = vote_request_in_range is a begun from ends.sender ends.apart last_term last
-  peer_in_range {from = from} ends a begun (peers.VoteReply granted) = vote_reply_in_range a from granted
-  peer_in_range ends a begun (peers.Append prev prev_term commit entries) = stays_in_range a
-  peer_in_range ends a begun (peers.Matched prev count mask) = stays_in_range a
-  peer_in_range ends a begun (peers.Refused next) = stays_in_range a
-  peer_in_range ends a begun (peers.Ask start) = stays_in_range a
-  peer_in_range ends a begun (peers.Answer start last slots) = stays_in_range a
+-- what is delivered was sent, and has a spelling; what is aimed at a member can be told to it
+pub aim_in_range : {shape : Shape} {w : World} → InRange shape w → (inner : Inner) (aim : Aim) → aim_of w inner ≡ Some aim → EventInRange shape aim.member aim.event
+aim_in_range {shape = shape} r (inners.Tick member word) aim e = subst (λ a. EventInRange shape a.member a.event) (same_Some _ _ e) tt
+aim_in_range {shape = shape} {w = w} r (inners.Take frame) aim e = delivered (slice_get w.sent (frame - 1)) refl e where
+  delivered : (found : Option Message) → slice_get w.sent (frame - 1) ≡ found → option_map delivery_of found ≡ Some aim → EventInRange shape aim.member aim.event
+  delivered None here is_aim = cc
+  delivered (Some m) here is_aim =
+      let at_frame : HasSpelling shape (get_or w.sent (frame - 1) m) = r.sent (frame - 1) m (slice_get_within w.sent (frame - 1) m here) in
+      let spelled : HasSpelling shape m = subst (HasSpelling shape) (get_or_from_slice_get w.sent (frame - 1) m m here) at_frame in
+      subst (λ a. EventInRange shape a.member a.event) (same_Some _ _ is_aim) (spelled, refl)
 
-  -- a message comes to the member that it is for
-  pub message_in_range : (m : Message) {n : Node} → HasSpelling shape m → NodeInRange shape (receiver_byte m) n → ActInRange shape (receiver_byte m) (act_of_message m n)
-  message_in_range (messages.Peer from to at body) {n = n} spelled a =
-      let ends : Ends shape from to at = ends_of is body spelled in
-      let first : ActInRange shape to (act_of_term at n) = term_in_range is ends a in
-      cond_both (nat_lt at n.durable.term) (act_of_lower_term n from body) (followed_by (act_of_term at n) (λ now. act_of_peer now from body)) (ActInRange shape to)
-      (λ lower. lower_term_in_range is ends a body (ltb-true _ _ lower))
-      (λ current.
-      let begun : 1 ≤ (act_of_term at n).node.durable.term = omega (arith, ends.term.0, caught_up n at current) in
-      followed_in_range (act_of_term at n) (λ now. act_of_peer now from body) first (peer_in_range ends first.node begun body))
-  message_in_range (messages.Request receiver request) spelled a = stays_in_range a
-  message_in_range (messages.Answered sender client seq reply) spelled a = stays_in_range a
+module _ {shape : Shape} {w : World} (r : InRange shape w) where
+  members_after :
+      (me : ℕ) (m next : Member) → slice_get w.members me ≡ Some m → NodeInRange shape me (node_of w.shape me next) →
+      (k : ℕ) (it : Member) → slice_get (slice_set w.members me next) k ≡ Some it → NodeInRange shape k (node_of w.shape k it)
+  members_after me m next here a k it e = elim (cases_eq k me) [
+    | inl same ↦
+        let now : slice_get (slice_set w.members me next) me ≡ Some it = subst (λ i. slice_get (slice_set w.members me next) i ≡ Some it) same e in
+        let is : next ≡ it = same_Some _ _ (sym (set_here w.members me m next here) ∙ now) in
+        rw same (subst (λ n. NodeInRange shape me (node_of w.shape me n)) is a)
+    | inr apart ↦ r.members k it (sym (set_there w.members me k next apart) ∙ e)
+  ]
 
-  module _ {w : World} (r : InRange shape w) where
-    nodes_after :
-        {member : ℕ} {n : Node} (act : Act) → ActInRange shape member act → slice_get w.nodes member ≡ Some n →
-        (k : ℕ) (m : Node) → slice_get (slice_set w.nodes member act.node) k ≡ Some m → NodeInRange shape k m
-    nodes_after {member = member} {n = n} act b here k m e = elim (cases_eq k member) [
-      | inl same ↦
-          let now : slice_get (slice_set w.nodes member act.node) member ≡ Some m =
-          subst (λ i. slice_get (slice_set w.nodes member act.node) i ≡ Some m) same e in
-          let it : act.node ≡ m = same_Some _ _ (sym (set_here w.nodes member n act.node here) ∙ now) in
-          rw same (subst (NodeInRange shape member) it b.node)
-      | inr apart ↦ r.nodes k m (sym (set_there w.nodes member k act.node apart) ∙ e)
-    ]
+  becoming_in_range :
+      (verdict : Verdict) (me : ℕ) (m next : Member) → slice_get w.members me ≡ Some m → NodeInRange shape me (node_of w.shape me next) →
+      InRange shape (becoming w verdict me next).world
+  becoming_in_range verdict me m next here a = record { of_shape = r.of_shape; members = members_after me m next here a; sent = r.sent }
 
-    after_turn_in_range :
-        {member : ℕ} {n : Node} (act : Act) → ActInRange shape member act → slice_get w.nodes member ≡ Some n →
-        InRange shape (after_turn w member (turned n act)).world
-    after_turn_in_range {n = n} act b here = record {
-      nodes = nodes_after act b here;
-      sent = All-append (HasSpelling shape) w.sent _ r.sent (All-same (HasSpelling shape) _ act.sends (sent_among-turned n act) b.sends);
-    }
+  turn_as_in_range :
+      (is : IsShape shape) (aim : Aim) → EventInRange shape aim.member aim.event → (d : Durable) (running : Option Volatile) →
+      slice_get w.members aim.member ≡ Some (record { durable = d; running = running }) → InRange shape (turn_as after_turn w aim d running).world
+  turn_as_in_range is aim told d None here = r
+  turn_as_in_range is aim told d (Some volatile) here =
+      let n = node_with w.shape aim.member d volatile in
+      let a : NodeInRange shape aim.member n = r.members aim.member (record { durable = d; running = Some volatile }) here in
+      let b : ActInRange shape aim.member (turns.act_of aim.event n) = act_in_range is aim.event told a in
+      let act = turns.act_of aim.event n in
+      let next : NodeInRange shape aim.member (node_with w.shape aim.member act.node.durable act.node.volatile) =
+      record { of_shape = r.of_shape; me = refl; is_member = a.is_member; term = b.node.term; log = b.node.log; commit = b.node.commit } in record {
+        of_shape = r.of_shape;
+        members = members_after aim.member _ (record { durable = act.node.durable; running = Some act.node.volatile }) here next;
+        sent = All-append (HasSpelling shape) w.sent _ r.sent (All-same (HasSpelling shape) _ act.sends (sent_among-turned n act) b.sends);
+      }
 
-    turn_of_in_range :
-        (member : ℕ) (event : Event) → ((n : Node) → NodeInRange shape member n → ActInRange shape member (act_of event n)) →
-        (here : Option Node) → slice_get w.nodes member ≡ here → InRange shape (turn_of w member event here).world
-    turn_of_in_range member event rule None here = r
-    turn_of_in_range member event rule (Some n) here = after_turn_in_range (act_of event n) (rule n (r.nodes member n here)) here
+  turn_of_in_range :
+      (is : IsShape shape) (aim : Aim) → EventInRange shape aim.member aim.event → (found : Option Member) → slice_get w.members aim.member ≡ found →
+      InRange shape (turn_of after_turn w aim found).world
+  turn_of_in_range is aim told None here = r
+  turn_of_in_range is aim told (Some m) here = turn_as_in_range is aim told m.durable m.running here
 
-    turn_at_in_range :
-        (member : ℕ) (event : Event) → ((n : Node) → NodeInRange shape member n → ActInRange shape member (act_of event n)) →
-        InRange shape (turn_at w member event).world
-    turn_at_in_range member event rule = turn_of_in_range member event rule (slice_get w.nodes member) refl
+  turn_at_in_range : IsShape shape → (inner : Inner) (aim : Option Aim) → aim_of w inner ≡ aim → InRange shape (turn_at after_turn w aim).world
+  turn_at_in_range is inner None e = r
+  turn_at_in_range is inner (Some aim) e = turn_of_in_range is aim (aim_in_range r inner aim e) (slice_get w.members aim.member) refl
 
-    -- what is delivered was sent
-    delivery_in_range : (i : ℕ) (frame : Option Message) → slice_get w.sent i ≡ frame → InRange shape (delivery w frame).world
-    delivery_in_range i None e = r
-    delivery_in_range i (Some m) e =
-        let at_frame : HasSpelling shape (get_or w.sent i m) = r.sent i m (slice_get_within w.sent i m e) in
-        let spelled : HasSpelling shape m = subst (HasSpelling shape) (get_or_from_slice_get w.sent i m m e) at_frame in
-        turn_at_in_range (receiver_byte m) (Frame m) (λ n a. message_in_range m spelled a)
+  down_as_in_range :
+      (me : ℕ) (d : Durable) (running : Option Volatile) → slice_get w.members me ≡ Some (record { durable = d; running = running }) →
+      InRange shape (down_as w me d running).world
+  down_as_in_range me d None here = r
+  down_as_in_range me d (Some volatile) here =
+      becoming_in_range Done me _ (down_with d) here (in_volatile (r.members me (record { durable = d; running = Some volatile }) here) fresh)
 
-    pub step_in_range : (event : Line) → InRange shape (step w event).world
-    step_in_range (Do (inners.Tick member word)) = turn_at_in_range member (Tick word) (λ n a. tick_in_range is word a)
-    step_in_range (Do (inners.Take frame)) = delivery_in_range (frame - 1) (slice_get w.sent (frame - 1)) refl
+  down_in_range : (me : ℕ) (found : Option Member) → slice_get w.members me ≡ found → InRange shape (down_of w me found).world
+  down_in_range me None here = r
+  down_in_range me (Some m) here = down_as_in_range me m.durable m.running here
 
-started_in_range : (shape : Shape) (member : ℕ) → IsMember shape member → NodeInRange shape member (started shape member born)
-started_in_range shape member is_member = record {
+  up_as_in_range :
+      (me : ℕ) (d : Durable) (running : Option Volatile) → slice_get w.members me ≡ Some (record { durable = d; running = running }) →
+      InRange shape (up_as w me d running).world
+  up_as_in_range me d None here =
+      becoming_in_range Done me _ (record { durable = d; running = Some fresh }) here (r.members me (record { durable = d; running = None }) here)
+  up_as_in_range me d (Some volatile) here = r
+
+  up_in_range : (me : ℕ) (found : Option Member) → slice_get w.members me ≡ found → InRange shape (up_of w me found).world
+  up_in_range me None here = r
+  up_in_range me (Some m) here = up_as_in_range me m.durable m.running here
+
+  show_as_in_range : (me : ℕ) (d : Durable) (running : Option Volatile) → InRange shape (show_as w me d running).world
+  show_as_in_range me d None = r
+  show_as_in_range me d (Some volatile) = r
+
+  show_in_range : (me : ℕ) (found : Option Member) → InRange shape (show_of w me found).world
+  show_in_range me None = r
+  show_in_range me (Some m) = show_as_in_range me m.durable m.running
+
+-- what was said and is lost leaves the rest in range
+unsaid_in_range : {shape : Shape} (w now : World) (more : List Message) → now.sent ≡ w.sent ++ more → InRange shape now → InRange shape (unsaid w now)
+unsaid_in_range {shape = shape} w now more is r = record {
+  of_shape = r.of_shape;
+  members = r.members;
+  sent = said_before (HasSpelling shape) w now more is r.sent;
+}
+
+pub step_in_range : {shape : Shape} → IsShape shape → {w : World} → InRange shape w → (line : Line) → InRange shape (step w line).world
+step_in_range is {w = w} r (lines.Do inner) = turn_at_in_range r is inner (aim_of w inner) refl
+step_in_range is {w = w} r (lines.Down me) = down_in_range r me (slice_get w.members me) refl
+step_in_range is {w = w} r (lines.Up me) = up_in_range r me (slice_get w.members me) refl
+step_in_range is {w = w} r (lines.Show me) = show_in_range r me (slice_get w.members me)
+step_in_range {shape = shape} is {w = w} r (lines.Stop call keep inner) =
+    stops_keep (InRange shape) unsaid_in_range (λ now me s. down_in_range s me (slice_get now.members me) refl) w call keep r inner
+    (turn_at_in_range r is inner (aim_of w inner) refl)
+
+newborn_in_range : (shape : Shape) (me : ℕ) → IsMember shape me → NodeInRange shape me (node_of shape me newborn)
+newborn_in_range shape me is_member = record {
   of_shape = refl;
   me = refl;
   is_member = is_member;
@@ -111,14 +135,14 @@ started_in_range shape member is_member = record {
 
 pub start_in_range : {shape : Shape} → IsShape shape → InRange shape (start shape)
 start_in_range {shape = shape} is = record {
-  nodes = λ member n e.
-      let made = made_at (λ me. started shape me born) 0 (members_of shape) member n e in
-      let same : started shape member born ≡ n = ap (λ me. started shape me born) (omega arith) ∙ made.1 in
-      subst (NodeInRange shape member) same (started_in_range shape member made.0);
+  of_shape = refl;
+  members = λ me m e.
+      let at = repeated_at (members_of shape) newborn me m e in
+      subst (λ it. NodeInRange shape me (node_of shape me it)) at.1 (newborn_in_range shape me at.0);
   sent = All-nil (HasSpelling shape);
 }
 
-run_in_range : {shape : Shape} → IsShape shape → (events : List Line) {w : World} → InRange shape w → InRange shape (run_from w events)
+pub run_in_range : {shape : Shape} → IsShape shape → (events : List Line) {w : World} → InRange shape w → InRange shape (run_from w events)
 run_in_range is [] r = r
 run_in_range is (event ∷ events) r = run_in_range is events (step_in_range is r event)
 

@@ -1,4 +1,4 @@
-use Rattle.world_model.proofs.InnerLines.{text_is_line, text_is_none, one_text, some_text}
+use Rattle.world_model.proofs.ScheduleLines.{text_is_line, text_is_none, one_text, some_text}
 use Rattle.world_model.proofs.lines_are_spelled_once.Goals as goal
 
 pub returns-clause-read : goal.returns-clause-read

@@ -13,6 +13,7 @@ use Rattle.world_model.proofs.Ranges.Turns.{act_in_range}
 use Rattle.node_core.specs.Turns.{change_of, event_of}
 use Rattle.node_core.specs.Stands.{AreHeard}
 use Rattle.node_core.proofs.Ranging.{node_in_range, none_spelled, there_is}
+use Rattle.node_core.proofs.Recording.{records_spelled}
 use Rattle.node_core.proofs.Telling.{added_to_none, sent_alone, told_kept}
 use Rattle.node_core.proofs.member.Core.turn.Goals as goal
 
@@ -37,10 +38,13 @@ returns-clause-turned c = λ n e.
     c.change_since.ensures
     ∙ ap (λ role. change_of role c.term-term.result now.role now.durable.term) (ap (λ core. core.role) c.core.view_is)
     ∙ ap (λ term. change_of self.role term now.role now.durable.term) (c.term-term.ensures.value ∙ ap (λ core. core.durable.term) c.core.view_is) in
+    let in_range = act_in_range is event c.requires ranged in
     let records : c.in_ok-group.group ≡ record_spellings self.shape.need act.records =
     c.in_ok-group.ensures ∙ added_to_none c.in_ok-act.act.group c.in_ok-act-2.act.group (record_spellings self.shape.need act.records) c.in_ok-act.ensures.group acted.records in record {
       node = acted.node;
+      same = (ap (λ core. core.shape) acted.node ∙ in_range.node.of_shape, ap (λ core. core.me) acted.node ∙ in_range.node.me);
       records = records;
+      written = records_spelled self.shape is self.me n event ranged c.requires;
       apply =
           subst (λ d. CanApplyAll self.shape d act.records) (sym (ap (λ core. core.durable) e)) (every_turn_can_be_applied self.shape self.me n event is ranged c.requires);
       empty = λ none. none_spelled self.shape.need act.records (sym records ∙ none);
@@ -48,7 +52,7 @@ returns-clause-turned c = λ n e.
           c.in_ok-outputs.ensures ∙ ap (λ told. option_to_list told ++ map Send c.in_ok-act-2.act.sends.items) change
           ∙ told_kept self n now c.in_ok-act-2.act.sends.items event e acted.node
           (sent_alone c.in_ok-act.act.sends.items c.in_ok-act-2.act.sends.items act.sends c.in_ok-act.ensures.sends acted.sends);
-      spelled = (act_in_range is event c.requires ranged).sends;
+      spelled = in_range.sends;
     }
 
 pub returns-clause-stands : goal.returns-clause-stands

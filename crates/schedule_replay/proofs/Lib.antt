@@ -1,0 +1,10 @@
+mod Sent
+mod Spelled
+mod Printing
+mod Reading
+mod Progressing
+mod Seating
+mod Shells
+mod Tallying
+mod Standing
+mod Doing

@@ -1,0 +1,90 @@
+-- What a replay reads and writes.
+use Rattle.std.specs.Prelude.{◌≡◌, ℕ, ◌+◌, List, [], ◌++◌, length, Option, None, Some, IfSome, Bool, true, false}
+use Rattle.std.specs.Io.KnownBytes.{Appends}
+use Rattle.craft_base.specs.Shape.{Shape}
+use Rattle.craft_edge.specs.Causes.{Rose}
+use Rattle.craft_edge.specs.Streams.{Streams, WhereBothTold}
+use Rattle.world_model.specs.Lines.{lines_of_run}
+use Rattle.world_model.specs.Safety.{OneLeaderATerm}
+use Rattle.world_model.specs.Schedule.{Reading, with_event, reading, reading_from, lines_of}
+use Rattle.world_model.specs.Spelling.{IsLineOf}
+use Rattle.world_model.specs.declared.line.Line.{Line}
+use Rattle.schedule_replay.specs.declared.replay_end.ReplayEnd.{ReplayEnd}
+use Rattle.schedule_replay.specs.declared.replay_end.ReplayEnd.TheVariants.{End, Bad, SourceFault, SinkFault, NoMemory}
+use Rattle.schedule_replay.specs.declared.replaying.Next.{Next}
+use Rattle.schedule_replay.specs.declared.replaying.Next.TheVariants as nexts
+use Rattle.schedule_replay.specs.Worlds.{Kept, StandsFor}
+
+-- What comes next was read: a line in range, and then what is still to come; or the line with that number is bad; or there was no
+-- line any more.
+abbrev pub ReadsNext : Shape → ℕ → Option (List ℕ) → Option (List ℕ) → Next → Type 0
+ReadsNext shape number old new (nexts.Asked line) =
+    IsLineOf shape line
+    × WhereBothTold old new (λ before after. reading_from shape number (lines_of before) ≡ with_event line (reading_from shape (number + 1) (lines_of after)))
+ReadsNext shape number old new nexts.Bad = IfSome old (λ before. reading_from shape number (lines_of before) ≡ record { events = []; bad = Some number })
+ReadsNext shape number old new nexts.End = WhereBothTold old new (λ before after. (before ≡ []) × (after ≡ []))
+
+-- the input has ended, or a line is left that is bad
+abbrev pub end_or_bad : Bool → Next
+end_or_bad true = nexts.End
+end_or_bad false = nexts.Bad
+
+-- nothing was read: the source failed, or memory was wanting
+abbrev pub ReadsNone : ℕ → ℕ → ReplayEnd → Type 0
+ReadsNone faults_before faults_now SourceFault = Rose faults_before faults_now
+ReadsNone faults_before faults_now NoMemory = Unit {0}
+ReadsNone faults_before faults_now _ = ⊥
+
+-- Of what the bytes say: the first bad line is this one, if there is one; the text of the events before it was written; and
+-- no term of their run has two members that ever led it or prepared to.
+pub record PrintsReading (shape : Shape) (bad : Option ℕ) (bytes : List ℕ) (taken now_taken : Option (List ℕ)) : Type 0 where
+  pub first_bad : (reading shape bytes).bad ≡ bad
+  pub text : Appends taken now_taken (lines_of_run shape (reading shape bytes).events)
+  pub one_leader : OneLeaderATerm shape (reading shape bytes).events
+
+-- every line was good, and nothing is left
+abbrev pub PrintsAll : Shape → Streams → Streams → Type 0
+PrintsAll shape before after = WhereBothTold before.left after.left (λ bytes rest. PrintsReading shape None bytes before.taken after.taken × (rest ≡ []))
+
+-- the line with this number is the first bad one
+abbrev pub PrintsUpTo : Shape → ℕ → Streams → Streams → Type 0
+PrintsUpTo shape line before after = IfSome before.left (λ bytes. PrintsReading shape (Some line) bytes before.taken after.taken)
+
+-- how a replay ends early: by a device that failed, or for want of memory
+abbrev pub EndsEarly : Streams → Streams → ReplayEnd → Type 0
+EndsEarly before after SourceFault = Rose before.source_faults after.source_faults
+EndsEarly before after SinkFault = Rose before.sink_faults after.sink_faults
+EndsEarly before after NoMemory = Unit {0}
+EndsEarly before after _ = ⊥
+
+-- how a replay ends: read to its end, at the first bad line, or early
+abbrev pub Ends : Shape → Streams → Streams → ReplayEnd → Type 0
+Ends shape before after End = PrintsAll shape before after
+Ends shape before after (Bad line) = PrintsUpTo shape line before after
+Ends shape before after SourceFault = EndsEarly before after SourceFault
+Ends shape before after SinkFault = EndsEarly before after SinkFault
+Ends shape before after NoMemory = EndsEarly before after NoMemory
+
+-- the world of that cluster, which stands for the events that the bytes say
+abbrev pub IsOfReading : Shape → Option (List ℕ) → Option Kept → Type 0
+IsOfReading shape left None = ⊥
+IsOfReading shape left (Some world) = (world.shape ≡ shape) × IfSome left (λ bytes. StandsFor world (reading shape bytes).events)
+
+-- after a schedule that was read to its end or to its first bad line the world is handed back, and else none
+abbrev pub HandsBack : Shape → Option (List ℕ) → ReplayEnd → Option Kept → Type 0
+HandsBack shape left End world = IsOfReading shape left world
+HandsBack shape left (Bad line) world = IsOfReading shape left world
+HandsBack shape left _ world = world ≡ None
+
+-- a reading that begins with these events
+abbrev pub after_events : List Line → Reading → Reading
+after_events events rest = record rest { events = events ++ rest.events }
+
+-- So far these events were read, and were carried out and printed; the line with this number is the next.
+pub record Progress (shape : Shape) (number : ℕ) (world : Kept) (left now_left taken now_taken : Option (List ℕ)) : Type 0 where
+  pub of_shape : world.shape ≡ shape
+  pub events : List Line
+  pub counted : number ≡ 1 + length events
+  pub reached : StandsFor world events
+  pub text : Appends taken now_taken (lines_of_run shape events)
+  pub read : WhereBothTold left now_left (λ before after. reading shape before ≡ after_events events (reading_from shape number (lines_of after)))
