@@ -1,0 +1,4 @@
+mod Arrays
+mod Hearing
+mod Telling
+mod Counting
