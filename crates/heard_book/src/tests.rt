@@ -1,3 +1,4 @@
+//! What the contracts don't say: that calls succeed, on numbers worked out by hand.
 use super::*;
 use craft_base::{Held, Known, MemberId, Shape};
 use std::test::Fail;

@@ -2,7 +2,7 @@
 ghost use Rattle.std.specs.Prelude.{◌≡◌, ◌<◌, IfOk};
 ghost use Rattle.craft_base.specs.Shape.{members_of};
 ghost use Rattle.world_model.specs.Nodes.{started};
-ghost use Rattle.node_core.specs.Stands.{kept_node};
+ghost use Rattle.node_core.specs.Stands.{Stands};
 
 use crate::voters::Voters;
 use craft_base::{MemberId, OutOfMemory, Shape};
@@ -57,7 +57,7 @@ impl Core {
     ) -> Result<Core, OutOfMemory>
         requires store { store.shape ≡ shape.now }
         requires member { me < members_of shape.now }
-        ensures { IfOk result (λ core. core ≡ kept_node (started shape.now me store.kept)) }
+        ensures { IfOk result (λ core. Stands core (started shape.now me store.kept)) }
     {
         Ok(Core {
             alloc,

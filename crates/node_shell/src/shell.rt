@@ -5,7 +5,7 @@ ghost use Rattle.craft_edge.specs.Causes.{Rose};
 ghost use Rattle.craft_edge.specs.Disk.{WhereTold, SameImages, StandsStill};
 ghost use Rattle.craft_edge.specs.DiskCalls.{after_stop_of};
 ghost use Rattle.entry_frames.specs.Durable.{Durable};
-ghost use Rattle.node_core.specs.Stands.{Stands, kept_node};
+ghost use Rattle.node_core.specs.Stands.{Stands};
 ghost use Rattle.node_core.specs.Turns.{IsFor, event_of};
 ghost use Rattle.node_shell.specs.Opening.{LeavesFile, MakesUpTo, OpensAsBefore, Replays};
 ghost use Rattle.node_shell.specs.Standing.{AllOpenTo, HasNode, IsKept, owner_of};
@@ -57,7 +57,7 @@ impl<D: Disk> Shell<D> {
         requires { me < members_of shape.now }
 
         // The member has just started over the state to which the file opened.
-        ensures started { IfOk result (λ x. x.core ≡ kept_node (started shape.now me x.core.durable)) }
+        ensures started { IfOk result (λ x. Stands x.core (started shape.now me x.core.durable)) }
         ensures opened { IfOk result (λ x. IfSome (D.seen disk) (λ file. OpensTo file (owned shape.now me) x.core.durable)) }
         ensures only { IfOk result (λ x. IfSome (D.seen disk) (λ file. (d : Durable) → OpensTo file (owned shape.now me) d → d ≡ x.core.durable)) }
         ensures kept { IfOk result (λ x. IsKept (D.seen x.disk) x.gate x.core) }
@@ -198,7 +198,7 @@ impl<D: Stopping> Shell<D> {
 fn boot(alloc: Global, shape: &Shape, me: MemberId, groups: &Groups) -> Result<Core, OutOfMemory>
     requires shape { groups.now.shape ≡ shape.now }
     requires member { me < members_of shape.now }
-    ensures started { IfOk result (λ core. core ≡ kept_node (started shape.now me core.durable)) }
+    ensures started { IfOk result (λ core. Stands core (started shape.now me core.durable)) }
     ensures replayed { IfOk result (λ core. Replays groups.now shape.now core.durable) }
 {
     let store = LogStore::replay(alloc, shape, groups)?;
