@@ -1,20 +1,43 @@
 -- Facts about messages and nodes stay true while history grows.
-use Rattle.std.proofs.Common.{ℕ, ◌∙◌, List, ap, length}
+use Rattle.std.proofs.Common.{ℕ, ◌∙◌, ◌+◌, ◌≤◌, List, ap, sym, le_trans, length, arith}
 use Rattle.std.specs.List.{All}
-use Rattle.std.proofs.lemmas.List.Elements.{All-weaker}
+use Rattle.std.proofs.lemmas.List.Elements.{All-cons, All-weaker}
 use Rattle.craft_base.specs.Shape.{Shape}
+use Rattle.craft_base.specs.declared.command.Entry.{Entry}
 use Rattle.entry_frames.specs.declared.peer.Peer.{Peer}
 use Rattle.entry_frames.specs.declared.peer.Peer.TheVariants as peers
 use Rattle.entry_frames.specs.declared.message.Message.{Message}
 use Rattle.entry_frames.specs.declared.message.Message.TheVariants as messages
 use Rattle.craft_base.specs.Knowledge.{Heard, Beat, From, Voted, Matched, Refused, Answered}
-use Rattle.world_model.specs.Nodes.{Node}
+use Rattle.world_model.specs.Nodes.{Node, node_hearing}
 use Rattle.protocol.specs.History.{History}
 use Rattle.protocol.specs.Logs.{last_term}
 use Rattle.protocol.specs.Growth.{Grows, Untouched}
-use Rattle.bridge.specs.Agreement.{PeerAgrees, HeardAgrees, MessageAgrees, NodeAgrees, SaidAgrees}
+use Rattle.protocol.proofs.Messages.{known_commit}
+use Rattle.bridge.specs.Agreement.{AllNeed, AppendAgrees, MatchedAgrees, PeerAgrees, HeardAgrees, MessageAgrees, NodeAgrees, SaidAgrees}
 
 module _ {g h : History} (x : Grows g h) where
+  pub append_stays :
+      (term prev prev_term commit : ℕ) (entries : List Entry) → AppendAgrees g term prev prev_term commit entries →
+      AppendAgrees h term prev prev_term commit entries
+  append_stays term prev prev_term commit entries a =
+      let front = x.led term in
+      let within : prev + length entries ≤ length (g.led term) = a.within in
+      record {
+        began = x.began term a.began;
+        within = le_trans within front.right;
+        before = sym (front.same _ (omega (arith, within))) ∙ a.before;
+        terms = λ place from le. a.terms place from le ∙ front.same _ (omega (arith, within, le));
+        commits = known_commit g h x term commit a.began a.commits;
+      }
+
+  matched_stays :
+      (term sender prev count mask : ℕ) → MatchedAgrees g term sender prev count mask → MatchedAgrees h term sender prev count mask
+  matched_stays term sender prev count mask a = record {
+    reach = omega (arith, a.reach, x.ack term sender);
+    whole = λ bit set. x.held term sender _ (a.whole bit set);
+  }
+
   peer_stays : (term sender receiver : ℕ) (body : Peer) → PeerAgrees g term sender receiver body → PeerAgrees h term sender receiver body
   peer_stays term sender receiver (peers.Vote last_of last) a =
       let kept = x.stood term sender a.stood in
@@ -24,8 +47,8 @@ module _ {g h : History} (x : Grows g h) where
         long = ap length kept ∙ a.long;
       }
   peer_stays term sender receiver (peers.VoteReply granted) a = λ yes. x.voted term sender receiver (a yes)
-  peer_stays term sender receiver (peers.Append prev prev_term commit entries) a = tt
-  peer_stays term sender receiver (peers.Matched prev count mask) a = tt
+  peer_stays term sender receiver (peers.Append prev prev_term commit entries) a = append_stays term prev prev_term commit entries a
+  peer_stays term sender receiver (peers.Matched prev count mask) a = matched_stays term sender prev count mask a
   peer_stays term sender receiver (peers.Refused next) a = tt
   peer_stays term sender receiver (peers.Ask start) a = tt
   peer_stays term sender receiver (peers.Answer start last slots) a = tt
@@ -44,7 +67,7 @@ module _ {g h : History} (x : Grows g h) where
   heard_stays : (term me : ℕ) (item : Heard) → HeardAgrees g term me item → HeardAgrees h term me item
   heard_stays term me Beat a = tt
   heard_stays term me (From sender last (Voted granted)) a = said_stays sender me term (peers.VoteReply granted) a
-  heard_stays term me (From sender last (Matched prev count mask)) a = tt
+  heard_stays term me (From sender last (Matched prev count mask)) a = said_stays sender me term (peers.Matched prev count mask) a
   heard_stays term me (From sender last (Refused next)) a = tt
   heard_stays term me (From sender last Answered) a = tt
 
@@ -53,8 +76,9 @@ module _ {g h : History} (x : Grows g h) where
 
   -- a node whose member didn't move
   pub node_stays :
-      {shape : Shape} {member : ℕ} {n : Node} → Untouched g h member → NodeAgrees shape g member n → NodeAgrees shape h member n
-  node_stays {member = member} {n = n} u a = record {
+      {shape : Shape} {member : ℕ} {n : Node} → Untouched g h member → AllNeed shape.need h → NodeAgrees shape g member n →
+      NodeAgrees shape h member n
+  node_stays {member = member} {n = n} u needs a = record {
     of_shape = a.of_shape;
     me = a.me;
     within = a.within;
@@ -64,4 +88,12 @@ module _ {g h : History} (x : Grows g h) where
     commit = u.commit ∙ a.commit;
     role = u.role ∙ a.role;
     heard = all_heard_stays n.durable.term member n.volatile.heard a.heard;
+    needs = needs;
   }
+
+-- a node that heard one thing more, which is true
+pub hearing_agrees :
+    {shape : Shape} {g : History} {member : ℕ} {n : Node} (item : Heard) → NodeAgrees shape g member n →
+    HeardAgrees g n.durable.term member item → NodeAgrees shape g member (node_hearing item n)
+hearing_agrees {g = g} {member = member} {n = n} item a told =
+    assumption (a, All-cons (HeardAgrees g n.durable.term member) item n.volatile.heard told a.heard)

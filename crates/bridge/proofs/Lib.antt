@@ -1,7 +1,17 @@
 pub mod Counting
 pub mod Views
+pub mod Stretches
+pub mod Completed
+pub mod Taking
+pub mod TakenRecords
 pub mod Facts
+pub mod Needs
+pub mod Masks
 pub mod Steps
+pub mod Acknowledging
+pub mod Proposing
+pub mod Knowing
+pub mod Committing
 pub mod Rules
 pub mod Turn
 pub mod Start

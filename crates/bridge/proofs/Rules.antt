@@ -1,5 +1,9 @@
 -- One file for each rule of a turn: the moves that it makes.
+pub mod Say
 pub mod Tick
 pub mod Terms
 pub mod Vote
+pub mod Prepare
 pub mod VoteReply
+pub mod Append
+pub mod Matched

@@ -1,5 +1,5 @@
 -- The world at its start agrees with the start of the protocol.
-use Rattle.std.proofs.Common.{ℕ, ◌<◌, refl, subst}
+use Rattle.std.proofs.Common.{ℕ, ◌<◌, arith, refl, subst}
 use Rattle.std.proofs.lemmas.List.Elements.{All-nil}
 use Rattle.craft_base.specs.Shape.{Shape, members_of}
 use Rattle.world_model.specs.World as world
@@ -18,6 +18,7 @@ newborn_agrees shape me within = record {
   commit = refl;
   role = refl;
   heard = All-nil _;
+  needs = λ term index from le. absurd (omega (arith, from, le));
 }
 
 pub start_agrees : (shape : Shape) → WorldAgrees shape protocol.start (world.start shape)

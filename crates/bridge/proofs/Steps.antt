@@ -81,3 +81,18 @@ then_moved {shape = shape} {g = g} reached act rule first next =
     let later : Reached shape.faults first.history = moves_trans shape.faults _ g first.history reached (first.moves).run in
     let still : All (MessageAgrees next.history) act.sends = messages_stay (reached_grows later (next.moves).run) act.sends first.sends in
     moved (followed_by act rule) (own_then first.moves next.moves) next.node (sends_more next.history act.sends (rule act.node).sends still next.sends)
+
+-- the same, where the history between the two is wanted by name
+pub moved_then :
+    {shape : Shape} {g h : History} {member : ℕ} (reached : Reached shape.faults g) (act : Act) (rule : Node → Act) →
+    OwnMoves shape.faults member g h → NodeAgrees shape h member act.node → All (MessageAgrees h) act.sends →
+    (Reached shape.faults h → ActBridged shape h member (rule act.node)) → ActBridged shape g member (followed_by act rule)
+moved_then {shape = shape} {g = g} {h = h} reached act rule moves node sends next =
+    let first : ActBridged shape g _ act = record { history = h; moves = moves; node = node; sends = sends } in
+    then_moved reached act rule first (next (moves_trans shape.faults _ g h reached moves.run))
+
+-- a rule that is bridged from the history which moves of the member made
+pub after_moves :
+    {shape : Shape} {g h : History} {member : ℕ} {act : Act} → OwnMoves shape.faults member g h → ActBridged shape h member act →
+    ActBridged shape g member act
+after_moves moves next = record { history = next.history; moves = own_then moves next.moves; node = next.node; sends = next.sends }

@@ -46,6 +46,7 @@ restarts {g = g} {me = me} {n = n} a = record {
   commit = a.commit;
   role = put_same me protocol.Follower g.role;
   heard = All-nil (HeardAgrees (after g (Restart me)) n.durable.term me);
+  needs = a.needs;
 }
 
 module _
@@ -67,7 +68,7 @@ module _
           rw same (subst (λ n. NodeAgrees shape h me (node_of w.shape me n)) is agrees)
       | inr apart ↦
           let before : slice_get w.members k ≡ Some it = sym (set_there w.members me k next apart) ∙ e in
-          node_stays (reached_grows reached moves.run) (moves.others k apart) (a.members k it before)
+          node_stays (reached_grows reached moves.run) (moves.others k apart) agrees.needs (a.members k it before)
     ]
 
     -- one member moves, and these are all that was sent
@@ -102,6 +103,7 @@ module _
           commit = b.node.commit;
           role = b.node.role;
           heard = b.node.heard;
+          needs = b.node.needs;
         } in
         changed_bridged (running_as act.node) _ b.moves as_kept here
         (All-append (MessageAgrees b.history) w.sent _ (still_said b.moves) (All-same (MessageAgrees b.history) _ act.sends (sent_among-turned n act) b.sends))

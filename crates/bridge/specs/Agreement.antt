@@ -1,15 +1,18 @@
 -- When a world of the turn agrees with a history of the protocol: one field a fact.
-use Rattle.std.specs.Prelude.{◌≡◌, ◌≢◌, ℕ, ◌<◌, true, All, length, Some, slice_get}
+use Rattle.std.specs.Prelude.{◌≡◌, ◌≢◌, ℕ, ◌+◌, ◌<◌, ◌≤◌, ◌⊎◌, true, List, All, length, Some, slice_get}
+use Rattle.std.specs.Int.{bit_at}
 use Rattle.craft_base.specs.Shape.{Shape, members_of}
+use Rattle.craft_base.specs.declared.command.Entry.{Entry}
 use Rattle.entry_frames.specs.declared.peer.Peer.{Peer}
 use Rattle.entry_frames.specs.declared.peer.Peer.TheVariants as peers
 use Rattle.entry_frames.specs.declared.message.Message.{Message}
 use Rattle.entry_frames.specs.declared.message.Message.TheVariants as messages
-use Rattle.craft_base.specs.Knowledge.{Heard, Told, Beat, From, Voted}
+use Rattle.craft_base.specs.Knowledge.{Heard, Told, Beat, From, Voted, Matched}
 use Rattle.world_model.specs.Nodes.{Node}
 use Rattle.world_model.specs.World.{Member, World, node_of}
 use Rattle.protocol.specs.History.{History}
-use Rattle.protocol.specs.Logs.{last_term}
+use Rattle.protocol.specs.Logs.{last_term, term_at}
+use Rattle.protocol.specs.Words.{need_at}
 use Rattle.bridge.specs.Views.{role_seen, log_seen}
 
 -- a candidate that asks for votes stood in the term, with a log that ends in that term and at that index
@@ -18,12 +21,27 @@ pub record AskAgrees (h : History) (term candidate last_of last : ℕ) : Type 0 
   pub ends : last_term (h.stood term candidate) ≡ last_of
   pub long : length (h.stood term candidate) ≡ last
 
--- what one member says to another in the term is true: a candidate that asks stood, and a vote that is granted was cast
+-- what a leader sends is a stretch of its log of that term, with the term of the entry before it, and a commit index that a
+-- leader of the term had
+pub record AppendAgrees (h : History) (term prev prev_term commit : ℕ) (entries : List Entry) : Type 0 where
+  pub began : h.began term ≡ true
+  pub within : prev + length entries ≤ length (h.led term)
+  pub before : term_at (h.led term) prev ≡ prev_term
+  pub terms : (place : ℕ) → 0 < place → place ≤ length entries → term_at (log_seen entries) place ≡ term_at (h.led term) (prev + place)
+  pub commits : (commit ≤ h.base term) ⊎ (commit ≤ h.decided term)
+
+-- who says that its log is the leader's up to an index acknowledged it, and what it says that it holds whole
+pub record MatchedAgrees (h : History) (term sender prev count mask : ℕ) : Type 0 where
+  pub reach : prev + count ≤ h.ack term sender
+  pub whole : (bit : ℕ) → bit_at mask bit ≡ 1 → h.held term sender (prev + 1 + bit) ≡ true
+
+-- what one member says to another in the term is true: a candidate that asks stood, a vote that is granted was cast, entries are
+-- the leader's, and a log that matches was acknowledged
 abbrev pub PeerAgrees : History → (term sender receiver : ℕ) → Peer → Type 0
 PeerAgrees h term sender receiver (peers.Vote last_of last) = AskAgrees h term sender last_of last
 PeerAgrees h term sender receiver (peers.VoteReply granted) = granted ≡ true → h.voted term sender ≡ Some receiver
-PeerAgrees h term sender receiver (peers.Append prev prev_term commit entries) = Unit {0}
-PeerAgrees h term sender receiver (peers.Matched prev count mask) = Unit {0}
+PeerAgrees h term sender receiver (peers.Append prev prev_term commit entries) = AppendAgrees h term prev prev_term commit entries
+PeerAgrees h term sender receiver (peers.Matched prev count mask) = MatchedAgrees h term sender prev count mask
 PeerAgrees h term sender receiver (peers.Refused next) = Unit {0}
 PeerAgrees h term sender receiver (peers.Ask start) = Unit {0}
 PeerAgrees h term sender receiver (peers.Answer start last slots) = Unit {0}
@@ -41,13 +59,19 @@ MessageAgrees h _ = Unit {0}
 -- what a member heard in the term is true, as the message is that it came by
 abbrev pub ToldAgrees : History → (term me sender : ℕ) → Told → Type 0
 ToldAgrees h term me sender (Voted granted) = SaidAgrees h sender me term (peers.VoteReply granted)
+ToldAgrees h term me sender (Matched prev count mask) = SaidAgrees h sender me term (peers.Matched prev count mask)
 ToldAgrees h term me sender _ = Unit {0}
 
 abbrev pub HeardAgrees : History → (term me : ℕ) → Heard → Type 0
 HeardAgrees h term me Beat = Unit {0}
 HeardAgrees h term me (From sender last told) = ToldAgrees h term me sender told
 
--- the node at a position of the world is that member of the history, and all that it heard is true
+-- each entry that a leader ever had needs so many parts
+abbrev pub AllNeed : ℕ → History → Type 0
+AllNeed need h = (term index : ℕ) → 0 < index → index ≤ length (h.led term) → need_at h term index ≡ need
+
+-- the node at a position of the world is that member of the history, and all that it heard is true. That all entries need what
+-- the shape says is of the history alone: a node that leads counts by it
 pub record NodeAgrees (shape : Shape) (h : History) (member : ℕ) (n : Node) : Type 0 where
   pub of_shape : n.shape ≡ shape
   pub me : n.me ≡ member
@@ -58,6 +82,7 @@ pub record NodeAgrees (shape : Shape) (h : History) (member : ℕ) (n : Node) : 
   pub commit : h.commit member ≡ n.durable.commit
   pub role : h.role member ≡ role_seen n.volatile.role
   pub heard : All (HeardAgrees h n.durable.term member) n.volatile.heard
+  pub needs : AllNeed shape.need h
 
 -- each member agrees, as the node as which it runs or would start, and each message that was ever sent
 pub record WorldAgrees (shape : Shape) (h : History) (w : World) : Type 0 where

@@ -25,7 +25,7 @@ node_in_range core n e member stored is_log =
 -- there is a node that a member stands for
 pub there_is : (core : Kept) → AreHeard core.voters → (n : Node) × (core ≡ kept_node n)
 there_is core heard = (
-  record { shape = core.shape; me = core.me; durable = core.durable; volatile = record { role = core.role; quiet = core.quiet; hint = core.hint; heard = heard.0 } },
+  record { shape = core.shape; me = core.me; durable = core.durable; volatile = record { role = core.role; quiet = core.quiet; hint = core.hint; heard = heard.0; first = 0 } },
   ap (λ voters. record { shape = core.shape; me = core.me; durable = core.durable; role = core.role; quiet = core.quiet; hint = core.hint; voters = voters }) heard.1,
 )
 

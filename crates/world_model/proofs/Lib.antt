@@ -1,5 +1,6 @@
 mod Examples
 mod OutputExamples
+mod CommitExamples
 pub mod Frames
 pub mod Positions
 pub mod Turns

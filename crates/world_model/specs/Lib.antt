@@ -1,4 +1,5 @@
 pub mod Nodes
+pub mod Quorums
 pub mod Rules
 pub mod Turn
 pub mod World

@@ -15,6 +15,8 @@ pub record Volatile : Type 0 where
   pub hint : Option ℕ
   -- all that was heard in this term, the latest first
   pub heard : List Heard
+  -- the index from which on a leader sends to a member of whose log it knows nothing
+  pub first : ℕ
 
 -- a member: what outlives a crash is its durable part, and nothing else does
 pub record Node : Type 0 where
@@ -25,7 +27,7 @@ pub record Node : Type 0 where
 
 -- what a crash has just lost: nothing was heard, and nobody is known to lead
 abbrev pub fresh : Volatile
-fresh = record { role = Follower; quiet = 0; hint = None; heard = [] }
+fresh = record { role = Follower; quiet = 0; hint = None; heard = []; first = 0 }
 
 abbrev pub node_with : Shape → ℕ → Durable → Volatile → Node
 node_with shape me durable volatile = record { shape = shape; me = me; durable = durable; volatile = volatile }

@@ -28,6 +28,7 @@ module _ {shape : Shape} {g : protocol.History} {member : ℕ} {n : Node} (a : N
     commit = a.commit;
     role = put_same member protocol.Follower g.role;
     heard = All-nil (HeardAgrees (after g (Raise member term)) term member);
+    needs = a.needs;
   }
 
   raise_bridged : (term : ℕ) → n.durable.term < term → ActBridged shape g member (act_of_higher_term term n)
@@ -46,7 +47,7 @@ module _ {shape : Shape} {g : protocol.History} {member : ℕ} {n : Node} (a : N
       record { apart = λ e. apart (sym e ∙ a.me); body_agrees = λ granted. absurd (true≢false (sym granted)) }
 
   -- and nothing is said of where a leader may go on
-  refusal_agrees : (sender : ℕ) → sender ≢ member → MessageAgrees g (message_of n (refusal n) sender)
+  pub refusal_agrees : (sender : ℕ) → sender ≢ member → MessageAgrees g (message_of n (refusal n) sender)
   refusal_agrees sender apart = record { apart = λ e. apart (sym e ∙ a.me); body_agrees = tt }
 
   stale_replies_agree : (sender : ℕ) (body : Peer) → sender ≢ member → All (MessageAgrees g) (stale_replies n sender body)

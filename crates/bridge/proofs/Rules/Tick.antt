@@ -1,7 +1,7 @@
 -- Tick: a member that stands makes the move of that name; a member that waits or beats makes none.
 use Rattle.std.proofs.Common.{◌≡◌, ℕ, suc, ◌+◌, Some, sym, ap, ◌∙◌, arith, length}
 use Rattle.std.proofs.lemmas.Bool.{cond_both}
-use Rattle.std.proofs.lemmas.List.Elements.{All-nil, All-cons}
+use Rattle.std.proofs.lemmas.List.Elements.{All-nil}
 use Rattle.craft_base.specs.Shape.{Shape}
 use Rattle.entry_frames.specs.Logs as node
 use Rattle.entry_frames.specs.declared.peer.Peer.TheVariants as peers
@@ -9,15 +9,18 @@ use Rattle.entry_frames.specs.declared.role.Role.{Role}
 use Rattle.entry_frames.specs.declared.role.Role.TheVariants.{Follower, Candidate, Preparing, Leader}
 use Rattle.craft_base.specs.Knowledge.{Beat}
 use Rattle.world_model.specs.Nodes.{Node, node_hearing}
-use Rattle.world_model.specs.Rules.Acts.{stays}
+use Rattle.world_model.specs.Rules.Acts.{sending, stays}
+use Rattle.world_model.specs.Rules.Say.{appends_to_others}
 use Rattle.world_model.specs.Rules.Tick.{act_of_candidacy, act_of_election, act_of_tick, act_of_tick_as, act_of_waiting, is_due, waiting_node}
 use Rattle.protocol.specs.History as protocol
 use Rattle.protocol.specs.Logs.{last_term}
-use Rattle.protocol.specs.Moves.{Stand, after}
+use Rattle.protocol.specs.Moves.{Reached, Stand, after}
 use Rattle.protocol.proofs.Counting.{put_same, put_at_same}
 use Rattle.bridge.specs.Agreement.{AskAgrees, HeardAgrees, NodeAgrees}
 use Rattle.bridge.specs.Bridges.{ActBridged}
-use Rattle.bridge.proofs.Steps.{moved, own_move, sends_to_others, unmoved_stays}
+use Rattle.bridge.proofs.Facts.{hearing_agrees}
+use Rattle.bridge.proofs.Steps.{moved, own_move, sends_to_others, unmoved, unmoved_stays}
+use Rattle.bridge.proofs.Rules.Say.{StartsWithin, appends_agree}
 use Rattle.bridge.proofs.Views.{length_seen, last_term_seen}
 
 -- who stood, voted for itself and showed its log
@@ -39,6 +42,7 @@ module _ {shape : Shape} {g : protocol.History} {member : ℕ} {n : Node} (a : N
     commit = a.commit;
     role = put_same member protocol.Candidate g.role;
     heard = All-nil (HeardAgrees (after g (Stand member)) (n.durable.term + 1) member);
+    needs = a.needs;
   }
 
   ask_agrees : AskAgrees (after g (Stand member)) (n.durable.term + 1) n.me (node.last_term n.durable.log) (node.last_index n.durable.log)
@@ -64,7 +68,16 @@ module _ {shape : Shape} {g : protocol.History} {member : ℕ} {n : Node} (a : N
   waiting_agrees = assumption a
 
   beat_agrees : NodeAgrees shape g member (node_hearing Beat n)
-  beat_agrees = assumption (a, All-cons (HeardAgrees g n.durable.term member) Beat n.volatile.heard tt a.heard)
+  beat_agrees = hearing_agrees Beat a tt
+
+-- a leader that beats sends to each other member from where it lacks something, and makes no move
+pub beat_bridged :
+    {shape : Shape} {g : protocol.History} {member : ℕ} {n : Node} → Reached shape.faults g → NodeAgrees shape g member n →
+    n.volatile.role ≡ Leader → StartsWithin (node_hearing Beat n) →
+    ActBridged shape g member (sending (appends_to_others (node_hearing Beat n)) (stays (node_hearing Beat n)))
+beat_bridged {n = n} reached a leads starts =
+    unmoved (sending (appends_to_others (node_hearing Beat n)) (stays (node_hearing Beat n))) (beat_agrees a)
+    (appends_agree reached (beat_agrees a) leads starts)
 
 tick_as_bridged :
     {shape : Shape} {g : protocol.History} {member : ℕ} {n : Node} (role : Role) (word : ℕ) → NodeAgrees shape g member n →

@@ -53,6 +53,7 @@ module _
     commit = a.commit;
     role = a.role;
     heard = all_heard_stays x n.durable.term member n.volatile.heard a.heard;
+    needs = a.needs;
   }
   vote_agrees (Some voted) is free x = record {
     of_shape = a.of_shape;
@@ -64,6 +65,7 @@ module _
     commit = a.commit;
     role = a.role;
     heard = all_heard_stays x n.durable.term member n.volatile.heard a.heard;
+    needs = a.needs;
   }
 
   grant_agrees : MessageAgrees (after g (Cast member candidate)) (message_of n (peers.VoteReply true) candidate)

@@ -2,29 +2,27 @@
 use Rattle.std.proofs.Common.{◌≡◌, ◌≢◌, ℕ, ◌<◌, ◌≤◌, le_trans, true, Bool, List, [], ◌∷◌, Some, refl, sym, ap, ◌∙◌, inl, inr, arith}
 use Rattle.std.specs.List.{All}
 use Rattle.std.proofs.lemmas.Bool.{cond_both, and_parts, or_cases, eqb-true, leb-true, true≢false, false_from_ne_true}
-use Rattle.std.proofs.lemmas.List.Elements.{All-cons, All-head, All-tail}
+use Rattle.std.proofs.lemmas.List.Elements.{All-head, All-tail}
 use Rattle.craft_base.specs.Shape.{Shape, members_of, majority_of}
 use Rattle.craft_base.specs.Knowledge as known
 use Rattle.entry_frames.specs.declared.role.Role.{Role}
 use Rattle.entry_frames.specs.declared.role.Role.TheVariants.{Follower, Candidate, Preparing, Leader}
 use Rattle.craft_base.specs.Knowledge.{Heard, Told, Beat, From, Voted, Matched, Refused, Answered}
-use Rattle.world_model.specs.Nodes.{Node, node_hearing}
+use Rattle.world_model.specs.Nodes.{Node}
 use Rattle.world_model.specs.Rules.Acts.{stays}
 use Rattle.world_model.specs.Rules.VoteReply.{act_of_count, act_of_vote_reply, act_of_vote_reply_as, has_won, leading_node, vote_heard}
-use Rattle.protocol.specs.Counting.{put}
 use Rattle.protocol.specs.History as protocol
 use Rattle.protocol.specs.Words.{is_for, votes}
-use Rattle.protocol.specs.Moves.{Win, Begin, Allowed, Reached, after}
-use Rattle.protocol.specs.Growth.{Grows}
-use Rattle.protocol.proofs.Counting.{put_same, is_for_from}
+use Rattle.protocol.specs.Moves.{Win, Allowed, Reached}
+use Rattle.protocol.proofs.Counting.{is_for_from}
 use Rattle.protocol.proofs.Elections.{votes_reached}
-use Rattle.protocol.proofs.Logs.{same_refl}
 use Rattle.bridge.specs.Views.{role_seen}
 use Rattle.bridge.specs.Agreement.{HeardAgrees, NodeAgrees}
-use Rattle.bridge.specs.Bridges.{ActBridged, OwnMoves}
+use Rattle.bridge.specs.Bridges.{ActBridged}
 use Rattle.bridge.proofs.Counting.{count_members, count_one_more}
-use Rattle.bridge.proofs.Facts.{all_heard_stays}
-use Rattle.bridge.proofs.Steps.{moved, own_move, own_then, reached_grows, sends_none, unmoved_stays}
+use Rattle.bridge.proofs.Facts.{hearing_agrees}
+use Rattle.bridge.proofs.Steps.{moved, sends_none, unmoved_stays}
+use Rattle.bridge.proofs.Rules.Prepare.{led, led_agrees, leads}
 
 -- a granted vote that was heard was cast, by another member
 heard_vote :
@@ -62,16 +60,6 @@ votes_counted shape g member term heard within own a =
     (is_for_from member (g.voted term member) own) in
     omega (arith, all, more)
 
--- the history in which the member has won, and began to lead with its log as it is
-abbrev led : protocol.History → ℕ → protocol.History
-led g member = after (after g (Win member)) (Begin member (g.log member))
-
-led_moves : {F : ℕ} {g : protocol.History} {member : ℕ} → Allowed F g (Win member) → OwnMoves F member g (led g member)
-led_moves {F = F} {g = g} {member = member} allowed =
-    let begins : Allowed F (after g (Win member)) (Begin member (g.log member)) =
-    (put_same member protocol.Preparing g.role, inl (same_refl (g.log member), λ i le e. e)) in
-    own_then (own_move (Win member) allowed) (own_move (Begin member (g.log member)) begins)
-
 module _
     {shape : Shape} {g : protocol.History} {member : ℕ} {n : Node} (reached : Reached shape.faults g) (a : NodeAgrees shape g member n)
   where
@@ -84,43 +72,23 @@ module _
         votes_counted shape g member n.durable.term n.volatile.heard a.within (rw (← a.term) own) a.heard in
         (stands, rw a.term (le_trans majority counted))
 
-    led_agrees : Grows g (led g member) → NodeAgrees shape (led g member) member (leading_node n)
-    led_agrees x = record {
-      of_shape = a.of_shape;
-      me = a.me;
-      within = a.within;
-      term = a.term;
-      vote = a.vote;
-      log = put_same member (g.log member) g.log ∙ a.log;
-      commit = a.commit;
-      role = put_same member protocol.Leading (put member protocol.Preparing g.role);
-      heard = all_heard_stays x n.durable.term member n.volatile.heard a.heard;
-    }
-
     leading_bridged : Allowed shape.faults g (Win member) → ActBridged shape g member (stays (leading_node n))
     leading_bridged allowed =
-        let moves : OwnMoves shape.faults member g (led g member) = led_moves allowed in
-        moved _ moves (led_agrees (reached_grows reached moves.run)) (sends_none (led g member))
+        moved _ (leads shape allowed) (led_agrees shape allowed reached a (leading_node n).volatile refl refl) (sends_none (led g member))
 
     count_bridged : n.volatile.role ≡ Candidate → ActBridged shape g member (act_of_count n)
     count_bridged role =
         cond_both (has_won n) (stays (leading_node n)) (stays n) (ActBridged shape g member)
         (λ won. leading_bridged (won_allowed role won)) (λ waits. unmoved_stays a)
 
-hearing_agrees :
-    {shape : Shape} {g : protocol.History} {member : ℕ} {n : Node} (sender : ℕ) (granted : Bool) → NodeAgrees shape g member n →
-    HeardAgrees g n.durable.term member (vote_heard n sender granted) → NodeAgrees shape g member (node_hearing (vote_heard n sender granted) n)
-hearing_agrees {g = g} {member = member} {n = n} sender granted a told =
-    assumption (a, All-cons (HeardAgrees g n.durable.term member) (vote_heard n sender granted) n.volatile.heard told a.heard)
-
 vote_reply_as_bridged :
     {shape : Shape} {g : protocol.History} {member : ℕ} {n : Node} (role : Role) (sender : ℕ) (granted : Bool) →
     Reached shape.faults g → NodeAgrees shape g member n → HeardAgrees g n.durable.term member (vote_heard n sender granted) →
     n.volatile.role ≡ role → ActBridged shape g member (act_of_vote_reply_as role n sender granted)
 vote_reply_as_bridged Follower sender granted reached a told e = unmoved_stays a
-vote_reply_as_bridged Candidate sender granted reached a told e = count_bridged reached (hearing_agrees sender granted a told) e
-vote_reply_as_bridged Preparing sender granted reached a told e = unmoved_stays (hearing_agrees sender granted a told)
-vote_reply_as_bridged Leader sender granted reached a told e = unmoved_stays (hearing_agrees sender granted a told)
+vote_reply_as_bridged {n = n} Candidate sender granted reached a told e = count_bridged reached (hearing_agrees (vote_heard n sender granted) a told) e
+vote_reply_as_bridged {n = n} Preparing sender granted reached a told e = unmoved_stays (hearing_agrees (vote_heard n sender granted) a told)
+vote_reply_as_bridged {n = n} Leader sender granted reached a told e = unmoved_stays (hearing_agrees (vote_heard n sender granted) a told)
 
 pub vote_reply_bridged :
     {shape : Shape} {g : protocol.History} {member : ℕ} {n : Node} (sender : ℕ) (granted : Bool) →

@@ -23,6 +23,11 @@ abbrev pub recording : Record → Act → Act
 recording r act =
     record act { node = record act.node { durable = applied act.node.durable r }; records = act.records ++ r ∷ [] }
 
+-- these records more, applied in order
+abbrev pub recording_all : List Record → Act → Act
+recording_all records act =
+    record act { node = record act.node { durable = after act.node.durable records }; records = act.records ++ records }
+
 -- that as what a crash loses
 abbrev pub keeping : Volatile → Act → Act
 keeping volatile act = record act { node = record act.node { volatile = volatile } }

@@ -1,0 +1,224 @@
+-- Append: a member that takes one makes the moves accept, learn where its commit index grows, and acknowledge; a member that
+-- passes it over, or refuses it, is a follower as after a restart.
+use Rattle.std.proofs.Common.{◌≡◌, ◌≢◌, ℕ, ◌+◌, ◌<◌, ◌≤◌, ◌⊎◌, min, true, nat_le, nat_lt, List, length, take, drop, refl, sym, ap, subst, ◌∙◌, inl, inr, arith}
+use Rattle.std.specs.List.{All}
+use Rattle.std.proofs.lemmas.Bool.{cond_both, and_parts, leb-true, ltb-true, eqb-true}
+use Rattle.craft_base.specs.Shape.{Shape}
+use Rattle.craft_base.specs.declared.command.Entry.{Entry}
+use Rattle.entry_frames.specs.Durable.{Durable, after as applied_all}
+use Rattle.entry_frames.specs.Records.{Commit}
+use Rattle.entry_frames.specs.declared.peer.Peer.TheVariants as peers
+use Rattle.entry_frames.specs.declared.role.Role.{Role}
+use Rattle.entry_frames.specs.declared.role.Role.TheVariants.{Follower, Candidate, Preparing, Leader}
+use Rattle.world_model.specs.Nodes.{Node}
+use Rattle.world_model.specs.Rules.Acts.{followed_by, message_of, recording, stays}
+use Rattle.world_model.specs.Rules.Append.{act_of_append, act_of_append_as, act_of_entries, act_of_following, act_of_heard_append, act_of_match, act_of_refusal, act_of_suited, act_of_taking, difference, following, has_before, is_clash, mask_of, taken_records}
+use Rattle.world_model.specs.Rules.Applying.{act_of_commit}
+use Rattle.world_model.specs.Rules.Terms.{refusal}
+use Rattle.protocol.specs.History as protocol
+use Rattle.protocol.specs.Invariants.{Sound}
+use Rattle.protocol.specs.Logs.{Agree, term_at}
+use Rattle.protocol.specs.Moves.{Accept, Learn, Restart, Reached, after}
+use Rattle.protocol.proofs.Counting.{put_same}
+use Rattle.protocol.proofs.Logs.{agree_less}
+use Rattle.protocol.proofs.Messages.{agrees_at}
+use Rattle.protocol.proofs.Runs.{moves_trans, sound_reached}
+use Rattle.bridge.specs.Views.{log_seen, role_seen}
+use Rattle.bridge.specs.Agreement.{AppendAgrees, HeardAgrees, MatchedAgrees, NodeAgrees}
+use Rattle.bridge.specs.Bridges.{ActBridged, OwnMoves}
+use Rattle.bridge.proofs.Acknowledging.{acknowledged, acknowledged_agrees, acknowledged_reach, acknowledged_whole, acknowledges}
+use Rattle.bridge.proofs.Facts.{all_heard_stays, append_stays}
+use Rattle.bridge.proofs.Masks.{stretch_bit}
+use Rattle.bridge.proofs.Steps.{after_moves, moved, moved_then, own_move, own_none, reached_grows, sends_none, sends_one, unmoved, unmoved_stays}
+use Rattle.bridge.proofs.Taking.{IsTaken}
+use Rattle.bridge.proofs.TakenRecords.{IsTakenBy, records_taken}
+use Rattle.bridge.proofs.Views.{length_seen, term_at_seen}
+use Rattle.bridge.proofs.Rules.Terms.{refusal_agrees}
+
+match_bridged :
+    {shape : Shape} {g : protocol.History} {member : ℕ} {n : Node} (reached : Reached shape.faults g) (a : NodeAgrees shape g member n)
+    (leader prev count : ℕ) → leader ≢ member → Agree (log_seen n.durable.log) (g.led n.durable.term) (prev + count) →
+    ActBridged shape g member (act_of_match leader prev count n)
+match_bridged {g = g} {member = member} {n = n} reached a leader prev count apart agrees =
+    let mask = mask_of (take count (drop prev n.durable.log)) in
+    let h = acknowledged g member (prev + count) (log_seen n.durable.log) in
+    let matched : MatchedAgrees h n.durable.term n.me prev count mask = record {
+      reach = acknowledged_reach reached a (prev + count) agrees;
+      whole = λ bit set.
+          let here = stretch_bit n.durable.log prev count bit set in
+          let within = here.0 in
+          acknowledged_whole reached a (prev + count) agrees (prev + 1 + bit) (omega (arith, within)) here.1;
+    } in
+    moved _ (acknowledges reached a (prev + count) agrees) (acknowledged_agrees reached a (prev + count) agrees)
+    (sends_one h (message_of n (peers.Matched prev count mask) leader) (record { apart = λ e. apart (sym e ∙ a.me); body_agrees = matched }))
+
+-- ---- the commit index
+
+module _
+    {shape : Shape} {g : protocol.History} {member : ℕ} {n : Node} (reached : Reached shape.faults g) (a : NodeAgrees shape g member n)
+    (index : ℕ) (more : n.durable.commit < index) (agrees : Agree (log_seen n.durable.log) (g.led n.durable.term) index)
+    (known : (index ≤ g.base n.durable.term) ⊎ (index ≤ g.decided n.durable.term)) where
+  -- one that the leader had, as far as the log is the leader's
+  learns : OwnMoves shape.faults member g (after g (Learn member index))
+  learns =
+      own_move (Learn member index) (
+        omega (arith, a.commit, more),
+        subst (λ t. Agree (g.log member) (g.led t) index) (sym a.term) (subst (λ log. Agree log (g.led n.durable.term) index) (sym a.log) agrees),
+        subst (λ t. (index ≤ g.base t) ⊎ (index ≤ g.decided t)) (sym a.term) known,
+      )
+
+  learnt_agrees : NodeAgrees shape (after g (Learn member index)) member (recording (Commit index) (stays n)).node
+  learnt_agrees = record {
+    of_shape = a.of_shape;
+    me = a.me;
+    within = a.within;
+    term = a.term;
+    vote = a.vote;
+    log = a.log;
+    commit = put_same member index g.commit;
+    role = a.role;
+    heard = all_heard_stays (reached_grows reached learns.run) n.durable.term member n.volatile.heard a.heard;
+    needs = a.needs;
+  }
+
+-- the commit index grows where it can, and the leader is told
+learn_and_match :
+    {shape : Shape} {g : protocol.History} {member : ℕ} {n : Node} → Reached shape.faults g → NodeAgrees shape g member n →
+    (leader prev count index : ℕ) → leader ≢ member → Agree (log_seen n.durable.log) (g.led n.durable.term) (prev + count) →
+    index ≤ prev + count → (index ≤ g.base n.durable.term) ⊎ (index ≤ g.decided n.durable.term) →
+    ActBridged shape g member (followed_by (act_of_commit index n) (act_of_match leader prev count))
+learn_and_match {shape = shape} {g = g} {member = member} {n = n} reached a leader prev count index apart agrees within known =
+    cond_both (nat_lt n.durable.commit index) (recording (Commit index) (stays n)) (stays n)
+    (λ act. ActBridged shape g member (followed_by act (act_of_match leader prev count)))
+    (λ greater.
+    let more = ltb-true _ _ greater in
+    let before = agree_less index within agrees in
+    moved_then reached (recording (Commit index) (stays n)) (act_of_match leader prev count) (learns reached a index more before known)
+    (learnt_agrees reached a index more before known) (sends_none (after g (Learn member index)))
+    (λ later. match_bridged later (learnt_agrees reached a index more before known) leader prev count apart agrees))
+    (λ less.
+    moved_then reached (stays n) (act_of_match leader prev count) (own_none g) a (sends_none g)
+    (λ later. match_bridged later a leader prev count apart agrees))
+
+-- ---- the entries
+
+module _
+    {shape : Shape} {g : protocol.History} {member : ℕ} {n : Node} (reached : Reached shape.faults g) (a : NodeAgrees shape g member n)
+    (prev prev_term commit : ℕ) (entries : List Entry) (told : AppendAgrees g n.durable.term prev prev_term commit entries)
+    (here : has_before n.durable.log prev prev_term ≡ true) where
+  append_sound : Sound shape.faults g
+  append_sound = sound_reached shape.faults g reached
+
+  -- the entry before those that are sent is the leader's, with all below it
+  before_agrees : Agree (log_seen n.durable.log) (g.led n.durable.term) prev
+  before_agrees =
+      let parts = and_parts (nat_le prev (length n.durable.log)) _ here in
+      let own : prev ≤ length n.durable.log = leb-true _ _ parts.0 in
+      let long : length (g.log member) ≡ length n.durable.log = ap length a.log ∙ length_seen n.durable.log in
+      let led : prev + length entries ≤ length (g.led n.durable.term) = told.within in
+      subst (λ log. Agree log (g.led n.durable.term) prev) a.log
+      (agrees_at shape.faults g append_sound member n.durable.term prev (omega (arith, own, long)) (omega (arith, led))
+      (ap (λ log. term_at log prev) a.log ∙ term_at_seen n.durable.log prev ∙ eqb-true _ _ parts.1 ∙ sym told.before))
+
+  -- what the member keeps when it has taken the entries
+  abbrev taken : Durable
+  taken = applied_all n.durable (taken_records prev n.durable.log entries)
+
+  entries_taken : IsTakenBy n.durable taken (g.led n.durable.term) (prev + length entries)
+  entries_taken = records_taken n.durable entries (g.led n.durable.term) prev before_agrees told.within told.terms
+
+  abbrev accepted : protocol.History
+  accepted = after g (Accept member (log_seen taken.log))
+
+  own_taken : IsTaken (g.log member) (log_seen taken.log) (g.led (g.term member)) (prev + length entries)
+  own_taken =
+      subst (λ t. IsTaken (g.log member) (log_seen taken.log) (g.led t) (prev + length entries)) (sym a.term)
+      (subst (λ log. IsTaken log (log_seen taken.log) (g.led n.durable.term) (prev + length entries)) (sym a.log) entries_taken.log)
+
+  accepts : OwnMoves shape.faults member g accepted
+  accepts =
+      own_move (Accept member (log_seen taken.log))
+      (record { began = subst (λ t. g.began t ≡ true) (sym a.term) told.began; taken = own_taken.taken; marks = own_taken.marks })
+
+  accepted_agrees : n.volatile.role ≡ Follower → NodeAgrees shape accepted member (act_of_entries prev entries n).node
+  accepted_agrees follows = record {
+    of_shape = a.of_shape;
+    me = a.me;
+    within = a.within;
+    term = a.term ∙ sym entries_taken.term;
+    vote = a.vote ∙ sym entries_taken.vote;
+    log = put_same member (log_seen taken.log) g.log;
+    commit = a.commit ∙ sym entries_taken.commit;
+    role = put_same member protocol.Follower g.role ∙ sym (ap role_seen follows);
+    heard =
+        subst (λ t. All (HeardAgrees accepted t member) n.volatile.heard) (sym entries_taken.term)
+        (all_heard_stays (reached_grows reached accepts.run) n.durable.term member n.volatile.heard a.heard);
+    needs = a.needs;
+  }
+
+  taking_bridged : (leader : ℕ) → leader ≢ member → n.volatile.role ≡ Follower → ActBridged shape g member (act_of_taking leader prev commit entries n)
+  taking_bridged leader apart follows =
+      let index : ℕ = min commit (prev + length entries) in
+      let reach : Agree (log_seen taken.log) (g.led taken.term) (prev + length entries) =
+      subst (λ t. Agree (log_seen taken.log) (g.led t) (prev + length entries)) (sym entries_taken.term) (entries_taken.log).agree in
+      let known : (index ≤ g.base taken.term) ⊎ (index ≤ g.decided taken.term) =
+      subst (λ t. (index ≤ g.base t) ⊎ (index ≤ g.decided t)) (sym entries_taken.term)
+      (elim told.commits [ inl base ↦ inl (omega (arith, base)) | inr decided ↦ inr (omega (arith, decided)) ]) in
+      moved_then reached (act_of_entries prev entries n)
+      (λ now. followed_by (act_of_commit (min commit (prev + length entries)) now) (act_of_match leader prev (length entries))) accepts (accepted_agrees follows)
+      (sends_none accepted)
+      (λ later. learn_and_match later (accepted_agrees follows) leader prev (length entries) index apart reach (omega arith) known)
+
+  suited_bridged : (leader : ℕ) → leader ≢ member → n.volatile.role ≡ Follower → ActBridged shape g member (act_of_suited leader prev commit entries n)
+  suited_bridged leader apart follows =
+      cond_both (is_clash n.durable.commit (difference prev n.durable.log entries)) (stays n) (act_of_taking leader prev commit entries n)
+      (ActBridged shape g member) (λ clashes. unmoved_stays a) (λ suits. taking_bridged leader apart follows)
+
+-- ---- the rule
+
+heard_append_bridged :
+    {shape : Shape} {g : protocol.History} {member : ℕ} {n : Node} (reached : Reached shape.faults g) (a : NodeAgrees shape g member n)
+    (leader prev prev_term commit : ℕ) (entries : List Entry) → leader ≢ member → AppendAgrees g n.durable.term prev prev_term commit entries →
+    n.volatile.role ≡ Follower → ActBridged shape g member (act_of_heard_append leader prev prev_term commit entries n)
+heard_append_bridged {shape = shape} {g = g} {member = member} {n = n} reached a leader prev prev_term commit entries apart told follows =
+    cond_both (has_before n.durable.log prev prev_term) (act_of_suited leader prev commit entries n) (act_of_refusal leader n)
+    (ActBridged shape g member)
+    (λ here. suited_bridged reached a prev prev_term commit entries told here leader apart follows)
+    (λ lacks. unmoved (act_of_refusal leader n) a (sends_one g (message_of n (refusal n) leader) (refusal_agrees a leader apart)))
+
+module _
+    {shape : Shape} {g : protocol.History} {member : ℕ} {n : Node} (reached : Reached shape.faults g) (a : NodeAgrees shape g member n)
+    (leader prev prev_term commit : ℕ) (entries : List Entry) (apart : leader ≢ member)
+    (told : AppendAgrees g n.durable.term prev prev_term commit entries) where
+  -- who hears the leader follows it, as after a restart
+  restarts : OwnMoves shape.faults member g (after g (Restart member))
+  restarts = own_move (Restart member) tt
+
+  follower_agrees : NodeAgrees shape (after g (Restart member)) member (record n { volatile = following leader n })
+  follower_agrees = record {
+    of_shape = a.of_shape;
+    me = a.me;
+    within = a.within;
+    term = a.term;
+    vote = a.vote;
+    log = a.log;
+    commit = a.commit;
+    role = put_same member protocol.Follower g.role;
+    heard = all_heard_stays (reached_grows reached restarts.run) n.durable.term member n.volatile.heard a.heard;
+    needs = a.needs;
+  }
+
+  following_bridged : ActBridged shape g member (act_of_following leader prev prev_term commit entries n)
+  following_bridged =
+      after_moves restarts
+      (heard_append_bridged (moves_trans shape.faults _ g (after g (Restart member)) reached restarts.run) follower_agrees leader prev prev_term commit
+      entries apart (append_stays (reached_grows reached restarts.run) n.durable.term prev prev_term commit entries told) refl)
+
+  append_as_bridged : (role : Role) → ActBridged shape g member (act_of_append_as role n leader prev prev_term commit entries)
+  append_as_bridged Follower = following_bridged
+  append_as_bridged Candidate = following_bridged
+  append_as_bridged Preparing = unmoved_stays a
+  append_as_bridged Leader = unmoved_stays a
+
+  pub append_bridged : ActBridged shape g member (act_of_append n leader prev prev_term commit entries)
+  append_bridged = append_as_bridged n.volatile.role

@@ -1,0 +1,12 @@
+pub mod Appends
+pub mod Lists
+pub mod Comparing
+pub mod Masks
+pub mod Noting
+pub mod Completing
+pub mod Differing
+pub mod Sending
+pub mod LogsAfter
+pub mod Naming
+pub mod Carrying
+pub mod Ranges
