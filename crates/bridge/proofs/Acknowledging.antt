@@ -52,6 +52,7 @@ module _
     commit = a.commit;
     role = a.role;
     heard = all_heard_stays (reached_grows reached acknowledges.run) n.durable.term member n.volatile.heard a.heard;
+    knows = a.knows;
     needs = a.needs;
   }
 

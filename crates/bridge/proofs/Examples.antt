@@ -1,5 +1,5 @@
--- A run of three members in which one is elected.
-use Rattle.std.proofs.Common.{List, [], ◌∷◌, refl, arith}
+-- Runs of three members: in one a member is elected, in one an entry is committed, in one an entry is removed.
+use Rattle.std.proofs.Common.{ℕ, ◌<◌, ◌≤◌, List, [], ◌∷◌, refl, inl, arith}
 use Rattle.std.specs.List.{All}
 use Rattle.std.proofs.lemmas.List.Elements.{All-nil, All-cons}
 use Rattle.world_model.specs.Safety.{IsRun}
@@ -7,38 +7,50 @@ use Rattle.world_model.specs.Spelling.{IsLineOf}
 use Rattle.world_model.specs.declared.line.Inner.TheVariants.{Tick, Take}
 use Rattle.world_model.specs.declared.line.Line.{Line}
 use Rattle.world_model.specs.declared.line.Line.TheVariants.{Do}
-use Rattle.bridge.specs.Laws.{SomeRunElects, three}
+use Rattle.bridge.specs.Laws.{SomeRunCommits, SomeRunElects, SomeRunRemoves, three}
 
--- a vote that member 1 grants is asked for and comes
-abbrev vote : List Line
-vote = Do (Take 1) ∷ Do (Take 3) ∷ []
+-- lines in range
+record InRange (events : List Line) : Type 0 where
+  pub all : All (IsLineOf three) events
 
--- before that member 0 is quiet for three ticks, and asks for votes
-abbrev election : List Line
-election = Do (Tick 0 0) ∷ Do (Tick 0 0) ∷ Do (Tick 0 0) ∷ vote
+no_more : InRange []
+no_more = record { all = All-nil (IsLineOf three) }
 
-ticks_are : IsLineOf three (Do (Tick 0 0))
-ticks_are = (omega arith, omega arith, omega arith)
+ticks : {events : List Line} (member : ℕ) → member < 3 → InRange events → InRange (Do (Tick member 0) ∷ events)
+ticks {events = events} member lt rest = record { all = All-cons (IsLineOf three) (Do (Tick member 0)) events (lt, omega arith, omega arith) rest.all }
 
-one_taken : IsLineOf three (Do (Take 1))
-one_taken = (omega arith, omega arith)
+takes : {events : List Line} (frame : ℕ) → 1 ≤ frame → frame ≤ 100 → InRange events → InRange (Do (Take frame) ∷ events)
+takes {events = events} frame from le rest = record { all = All-cons (IsLineOf three) (Do (Take frame)) events (from, omega (arith, le)) rest.all }
 
-three_taken : IsLineOf three (Do (Take 3))
-three_taken = (omega arith, omega arith)
+runs : {events : List Line} → InRange events → IsRun three events
+runs r = record { of_shape = (omega arith, omega arith, omega arith, omega arith); in_range = r.all }
 
-one_more : (events : List Line) → All (IsLineOf three) events → All (IsLineOf three) (Do (Tick 0 0) ∷ events)
-one_more events all = All-cons (IsLineOf three) (Do (Tick 0 0)) events ticks_are all
+-- member 0 is quiet for three ticks and asks for votes, and a vote that member 1 grants comes
+abbrev election : List Line → List Line
+election rest = Do (Tick 0 0) ∷ Do (Tick 0 0) ∷ Do (Tick 0 0) ∷ Do (Take 1) ∷ Do (Take 3) ∷ rest
 
-vote_in_range : All (IsLineOf three) vote
-vote_in_range =
-    All-cons (IsLineOf three) (Do (Take 1)) (Do (Take 3) ∷ []) one_taken
-    (All-cons (IsLineOf three) (Do (Take 3)) [] three_taken (All-nil (IsLineOf three)))
-
-in_range : All (IsLineOf three) election
-in_range = one_more (Do (Tick 0 0) ∷ Do (Tick 0 0) ∷ vote) (one_more (Do (Tick 0 0) ∷ vote) (one_more vote vote_in_range))
-
-election_runs : IsRun three election
-election_runs = record { of_shape = (omega arith, omega arith, omega arith, omega arith); in_range = in_range }
+elects : {rest : List Line} → InRange rest → InRange (election rest)
+elects r =
+    ticks 0 (omega arith) (ticks 0 (omega arith) (ticks 0 (omega arith) (takes 1 (omega arith) (omega arith) (takes 3 (omega arith) (omega arith) r))))
 
 pub some_run_elects : SomeRunElects
-some_run_elects = (election, election_runs, (5, (tt, refl)))
+some_run_elects = (election [], runs (elects no_more), (5, (tt, refl)))
+
+-- then member 1 takes the leader's empty entry, and the leader hears that it did
+pub some_run_commits : SomeRunCommits
+some_run_commits =
+    (election (Do (Take 4) ∷ Do (Take 6) ∷ []), runs (elects (takes 4 (omega arith) (omega arith) (takes 6 (omega arith) (omega arith) no_more))), refl, refl)
+
+-- or nobody takes it: member 1 is elected by member 2, and member 0 takes its entry in place of its own
+abbrev second : List Line
+second =
+    Do (Tick 1 0) ∷ Do (Tick 1 0) ∷ Do (Tick 1 0) ∷ Do (Take 7) ∷ Do (Take 8) ∷ Do (Take 9) ∷ Do (Take 11) ∷ []
+
+second_in_range : InRange second
+second_in_range =
+    ticks 1 (omega arith) (ticks 1 (omega arith) (ticks 1 (omega arith)
+    (takes 7 (omega arith) (omega arith) (takes 8 (omega arith) (omega arith) (takes 9 (omega arith) (omega arith) (takes 11 (omega arith) (omega arith) no_more))))))
+
+pub some_run_removes : SomeRunRemoves
+some_run_removes =
+    (election second, _, _, _, _, runs (elects second_in_range), inl refl, inl refl, omega arith, refl, refl, λ e. absurd (omega (arith, e)))

@@ -14,7 +14,8 @@ use Rattle.protocol.specs.History.{History}
 use Rattle.protocol.specs.Logs.{last_term}
 use Rattle.protocol.specs.Growth.{Grows, Untouched}
 use Rattle.protocol.proofs.Messages.{known_commit}
-use Rattle.bridge.specs.Agreement.{AllNeed, AppendAgrees, MatchedAgrees, PeerAgrees, HeardAgrees, MessageAgrees, NodeAgrees, SaidAgrees}
+use Rattle.bridge.specs.Agreement.{AllNeed, AppendAgrees, MatchedAgrees, PeerAgrees, HeardAgrees, ItemWithin, MessageAgrees, NodeAgrees, SaidAgrees}
+use Rattle.bridge.proofs.Starts.{knows_hearing}
 
 module _ {g h : History} (x : Grows g h) where
   pub append_stays :
@@ -88,12 +89,14 @@ module _ {g h : History} (x : Grows g h) where
     commit = u.commit ∙ a.commit;
     role = u.role ∙ a.role;
     heard = all_heard_stays n.durable.term member n.volatile.heard a.heard;
+    knows = a.knows;
     needs = needs;
   }
 
 -- a node that heard one thing more, which is true
 pub hearing_agrees :
     {shape : Shape} {g : History} {member : ℕ} {n : Node} (item : Heard) → NodeAgrees shape g member n →
-    HeardAgrees g n.durable.term member item → NodeAgrees shape g member (node_hearing item n)
-hearing_agrees {g = g} {member = member} {n = n} item a told =
-    assumption (a, All-cons (HeardAgrees g n.durable.term member) item n.volatile.heard told a.heard)
+    ItemWithin (length n.durable.log) item → HeardAgrees g n.durable.term member item → NodeAgrees shape g member (node_hearing item n)
+hearing_agrees {g = g} {member = member} {n = n} item a within told =
+    let more = knows_hearing n.volatile.role (length n.durable.log) n.volatile.first item n.volatile.heard within a.knows in
+    assumption (a, more, All-cons (HeardAgrees g n.durable.term member) item n.volatile.heard told a.heard)

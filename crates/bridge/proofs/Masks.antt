@@ -20,7 +20,7 @@ halved true rest = omega arith
 halved false rest = omega arith
 
 -- a bit that is set is one of the stretch, whose entry is whole
-pub mask_bit : (entries : List Entry) (bit : ℕ) → bit_at (mask_of entries) bit ≡ 1 → (bit < length entries) × (whole_at (log_seen entries) (suc bit) ≡ true)
+mask_bit : (entries : List Entry) (bit : ℕ) → bit_at (mask_of entries) bit ≡ 1 → (bit < length entries) × (whole_at (log_seen entries) (suc bit) ≡ true)
 unfolding whole_at
 mask_bit [] bit e = absurd (omega (arith, e, bit_at-zero bit))
 mask_bit (entry ∷ entries) zero e =

@@ -1,5 +1,5 @@
 -- A leader adds an entry of its term, with its whole value, to its log.
-use Rattle.std.proofs.Common.{◌≡◌, ℕ, List, [], ◌∷◌, ◌++◌, sym, ap, subst, ◌∙◌}
+use Rattle.std.proofs.Common.{◌≡◌, ℕ, ◌+◌, ◌≤◌, List, [], ◌∷◌, ◌++◌, length, sym, ap, subst, ◌∙◌, arith, length-append}
 use Rattle.craft_base.specs.Shape.{IsShape, Shape}
 use Rattle.craft_base.specs.declared.command.Entry.{Entry}
 use Rattle.entry_frames.specs.Records.{Add}
@@ -13,10 +13,11 @@ use Rattle.protocol.proofs.Counting.{put_same}
 use Rattle.protocol.proofs.Runs.{sound_reached}
 use Rattle.protocol.proofs.Slots.{adds_append}
 use Rattle.bridge.specs.Views.{log_seen, mark_seen, role_seen}
-use Rattle.bridge.specs.Agreement.{NodeAgrees}
+use Rattle.bridge.specs.Agreement.{KnowsWithin, NodeAgrees}
 use Rattle.bridge.specs.Bridges.{OwnMoves}
 use Rattle.bridge.proofs.Facts.{all_heard_stays}
 use Rattle.bridge.proofs.Needs.{propose_needs}
+use Rattle.bridge.proofs.Starts.{items_within_more}
 use Rattle.bridge.proofs.Steps.{own_move, reached_grows}
 use Rattle.bridge.proofs.Views.{append_seen}
 
@@ -59,5 +60,15 @@ module _
     commit = a.commit;
     role = a.role;
     heard = all_heard_stays (reached_grows reached proposes.run) n.durable.term member n.volatile.heard a.heard;
+    knows =
+        let one_more : length (n.durable.log ++ entry ∷ []) ≡ length n.durable.log + 1 = length-append n.durable.log (entry ∷ []) in
+        let leader : KnowsWithin Leader (length n.durable.log) n.volatile.first n.volatile.heard =
+        subst (λ role. KnowsWithin role (length n.durable.log) n.volatile.first n.volatile.heard) leads a.knows in
+        let first : n.volatile.first ≤ length n.durable.log + 1 = leader.0 in
+        let more : KnowsWithin Leader (length (n.durable.log ++ entry ∷ [])) n.volatile.first n.volatile.heard = (
+          omega (arith, first, one_more),
+          items_within_more (length n.durable.log) _ (omega (arith, one_more)) n.volatile.heard leader.1,
+        ) in
+        subst (λ role. KnowsWithin role (length (n.durable.log ++ entry ∷ [])) n.volatile.first n.volatile.heard) (sym leads) more;
     needs = propose_needs shape.faults shape.need g (sound_reached shape.faults g reached) a.needs member longer longer_adds;
   }

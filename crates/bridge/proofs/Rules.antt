@@ -5,5 +5,6 @@ pub mod Terms
 pub mod Vote
 pub mod Prepare
 pub mod VoteReply
+pub mod Applying
 pub mod Append
 pub mod Matched

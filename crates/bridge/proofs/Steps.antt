@@ -1,5 +1,5 @@
 -- How rules are put together: what stays, one move, and one rule after another.
-use Rattle.std.proofs.Common.{◌≡◌, ℕ, ◌==◌, true, not, List, [], ◌∷◌, ◌++◌, sym}
+use Rattle.std.proofs.Common.{◌≡◌, ℕ, ◌==◌, true, not, [], ◌∷◌, sym}
 use Rattle.std.specs.List.{All}
 use Rattle.std.proofs.lemmas.Bool.{not-true, eqb-false}
 use Rattle.std.proofs.lemmas.List.Elements.{All-nil, All-cons, All-append, All-map, All-weaker, filter_passes}
@@ -69,18 +69,19 @@ unmoved {g = g} act node sends = moved act (own_none g) node sends
 pub unmoved_stays : {shape : Shape} {g : History} {member : ℕ} {n : Node} → NodeAgrees shape g member n → ActBridged shape g member (stays n)
 unmoved_stays {g = g} {n = n} node = unmoved (stays n) node (sends_none g)
 
--- what is said beside what was said already
-pub sends_more : (h : History) (sends more : List Message) → All (MessageAgrees h) sends → All (MessageAgrees h) more → All (MessageAgrees h) (sends ++ more)
-sends_more h sends more one other = All-append (MessageAgrees h) sends more one other
-
 -- a rule, and then another of what it makes of the node
-pub then_moved :
+abbrev pub then_moved :
     {shape : Shape} {g : History} {member : ℕ} (reached : Reached shape.faults g) (act : Act) (rule : Node → Act)
     (first : ActBridged shape g member act) → ActBridged shape first.history member (rule act.node) → ActBridged shape g member (followed_by act rule)
 then_moved {shape = shape} {g = g} reached act rule first next =
     let later : Reached shape.faults first.history = moves_trans shape.faults _ g first.history reached (first.moves).run in
     let still : All (MessageAgrees next.history) act.sends = messages_stay (reached_grows later (next.moves).run) act.sends first.sends in
-    moved (followed_by act rule) (own_then first.moves next.moves) next.node (sends_more next.history act.sends (rule act.node).sends still next.sends)
+    record {
+      history = next.history;
+      moves = own_then first.moves next.moves;
+      node = next.node;
+      sends = All-append (MessageAgrees next.history) act.sends (rule act.node).sends still next.sends;
+    }
 
 -- the same, where the history between the two is wanted by name
 pub moved_then :
@@ -92,7 +93,7 @@ moved_then {shape = shape} {g = g} {h = h} reached act rule moves node sends nex
     then_moved reached act rule first (next (moves_trans shape.faults _ g h reached moves.run))
 
 -- a rule that is bridged from the history which moves of the member made
-pub after_moves :
+abbrev pub after_moves :
     {shape : Shape} {g h : History} {member : ℕ} {act : Act} → OwnMoves shape.faults member g h → ActBridged shape h member act →
     ActBridged shape g member act
 after_moves moves next = record { history = next.history; moves = own_then moves next.moves; node = next.node; sends = next.sends }

@@ -24,7 +24,7 @@ pub record IsTakenBy (d e : Durable) (led : List Slot) (reach : ℕ) : Type 0 wh
 abbrev pub with_log : Durable → List Entry → Durable
 with_log d log = record { term = d.term; vote = d.vote; log = log; commit = d.commit }
 
-all_added : (d : Durable) (entries : List Entry) → after d (map Add entries) ≡ with_log d (d.log ++ entries)
+pub all_added : (d : Durable) (entries : List Entry) → after d (map Add entries) ≡ with_log d (d.log ++ entries)
 all_added d [] = ap (with_log d) (sym (append-nil d.log))
 all_added d (entry ∷ entries) =
     all_added (applied d (Add entry)) entries ∙ ap (with_log d) (append_assoc d.log (entry ∷ []) entries)

@@ -1,137 +1,69 @@
 -- The world after one event.
-use Rattle.std.proofs.Common.{◌≡◌, ℕ, ◌-◌, List, ◌++◌, Option, None, Some, option_map, slice_get, slice_set, get_or, refl, sym, subst, ◌∙◌, inl, inr}
-use Rattle.std.specs.List.{All}
-use Rattle.std.proofs.lemmas.Bool.{cases_eq}
-use Rattle.std.proofs.lemmas.List.Elements.{All-append, All-nil, All-same}
+use Rattle.std.proofs.Common.{◌≡◌, ℕ, ◌-◌, List, ◌++◌, Option, None, Some, option_map, slice_get, get_or, refl, subst}
+use Rattle.std.proofs.lemmas.List.Elements.{All-nil}
 use Rattle.std.proofs.lemmas.Option.{slice_get_within, get_or_from_slice_get, same_Some}
-use Rattle.craft_base.specs.Shape.{Shape}
+use Rattle.craft_base.specs.Shape.{IsShape, Shape}
 use Rattle.entry_frames.specs.Durable.{Durable}
 use Rattle.entry_frames.specs.declared.message.Message.{Message}
 use Rattle.world_model.specs.Nodes.{Node, Volatile, fresh, node_with}
+use Rattle.world_model.specs.Traces.{Proposal}
 use Rattle.world_model.specs.Turn as turns
-use Rattle.world_model.specs.World.{Aim, Member, World, after_turn, aim_of, delivery_of, down_as, down_of, down_with, node_of, running_as, show_as, show_of, step, turn_as, turn_at, turn_of, up_as, up_of}
+use Rattle.world_model.specs.World.{Aim, Member, World, after_turn, aim_of, counting, delivery_of, down_as, down_of, down_with, happening, show_as, show_of, step, turn_as, turn_at, turn_of, up_as, up_of}
 use Rattle.world_model.specs.declared.line.Inner.{Inner}
 use Rattle.world_model.specs.declared.line.Inner.TheVariants as inners
 use Rattle.world_model.specs.declared.line.Line.{Line}
 use Rattle.world_model.specs.declared.line.Line.TheVariants as lines
-use Rattle.world_model.proofs.Positions.{set_here, set_there}
 use Rattle.world_model.proofs.Stops.{said_before, stops_keep, unsaid}
-use Rattle.world_model.proofs.Turns.{sent_among-turned}
 use Rattle.protocol.specs.History as protocol
 use Rattle.protocol.specs.Moves.{Reached, Restart, None_yet, after}
-use Rattle.protocol.proofs.Counting.{put_same}
 use Rattle.protocol.proofs.Runs.{moves_trans}
 use Rattle.bridge.specs.Agreement.{HeardAgrees, MessageAgrees, NodeAgrees, WorldAgrees}
-use Rattle.bridge.specs.Bridges.{ActBridged, OwnMoves, WorldBridged}
-use Rattle.bridge.proofs.Facts.{messages_stay, node_stays}
-use Rattle.bridge.proofs.Steps.{own_move, own_none, reached_grows}
-use Rattle.bridge.proofs.Rules.Tick.{tick_bridged}
-use Rattle.bridge.proofs.Turn.{message_bridged}
+use Rattle.bridge.specs.Bridges.{TurnBridged, WorldBridged}
+use Rattle.bridge.specs.Traced.{AllStand, MessageStands}
+use Rattle.bridge.proofs.Book.Turn.{message_turned, tick_turned}
+use Rattle.bridge.proofs.Members.{changed_bridged, turned_bridged}
+use Rattle.bridge.proofs.Restarting.{restarted_agrees, restarts}
+use Rattle.bridge.proofs.Steps.{own_none}
 
--- what an event makes of a node that agrees is bridged
-abbrev IsTold : Shape → protocol.History → Aim → Type 0
-IsTold shape g aim = (n : Node) → NodeAgrees shape g aim.member n → ActBridged shape g aim.member (turns.act_of aim.event n)
-
--- a member that goes down makes the move restart
-restarts :
-    {shape : Shape} {g : protocol.History} {me : ℕ} {n : Node} → NodeAgrees shape g me n →
-    NodeAgrees shape (after g (Restart me)) me (node_with n.shape n.me n.durable fresh)
-restarts {g = g} {me = me} {n = n} a = record {
-  of_shape = a.of_shape;
-  me = a.me;
-  within = a.within;
-  term = a.term;
-  vote = a.vote;
-  log = a.log;
-  commit = a.commit;
-  role = put_same me protocol.Follower g.role;
-  heard = All-nil (HeardAgrees (after g (Restart me)) n.durable.term me);
-  needs = a.needs;
-}
+-- what an event makes of a node that agrees is bridged and traced
+abbrev IsTold : Shape → protocol.History → List Proposal → Aim → Type 0
+IsTold shape g book aim =
+    (n : Node) → NodeAgrees shape g aim.member n → AllStand book 1 n.durable.log →
+    TurnBridged shape g book aim.member n.durable (turns.act_of aim.event n)
 
 module _
-    {shape : Shape} {g : protocol.History} {w : World} (reached : Reached shape.faults g) (a : WorldAgrees shape g w)
+    {shape : Shape} {g : protocol.History} {w : World} (reached : Reached shape.faults g) (is : IsShape shape) (a : WorldAgrees shape g w)
   where
     -- nothing happens
     nothing_bridged : WorldBridged shape g w
     nothing_bridged = record { history = g; moves = None_yet; agrees = a }
 
-    -- one member moves, and agrees in its place: the others didn't move
-    members_after :
-        {h : protocol.History} {me : ℕ} {m : Member} (next : Member) → OwnMoves shape.faults me g h → NodeAgrees shape h me (node_of w.shape me next) →
-        slice_get w.members me ≡ Some m → (k : ℕ) (it : Member) → slice_get (slice_set w.members me next) k ≡ Some it →
-        NodeAgrees shape h k (node_of w.shape k it)
-    members_after {h = h} {me = me} {m = m} next moves agrees here k it e = elim (cases_eq k me) [
-      | inl same ↦
-          let now : slice_get (slice_set w.members me next) me ≡ Some it = subst (λ i. slice_get (slice_set w.members me next) i ≡ Some it) same e in
-          let is : next ≡ it = same_Some _ _ (sym (set_here w.members me m next here) ∙ now) in
-          rw same (subst (λ n. NodeAgrees shape h me (node_of w.shape me n)) is agrees)
-      | inr apart ↦
-          let before : slice_get w.members k ≡ Some it = sym (set_there w.members me k next apart) ∙ e in
-          node_stays (reached_grows reached moves.run) (moves.others k apart) agrees.needs (a.members k it before)
-    ]
-
-    -- one member moves, and these are all that was sent
-    changed_bridged :
-        {h : protocol.History} {me : ℕ} {m : Member} (next : Member) (sent : List Message) → OwnMoves shape.faults me g h →
-        NodeAgrees shape h me (node_of w.shape me next) → slice_get w.members me ≡ Some m → All (MessageAgrees h) sent →
-        WorldBridged shape g (record { shape = w.shape; members = slice_set w.members me next; sent = sent })
-    changed_bridged {h = h} next sent moves agrees here said = record {
-      history = h;
-      moves = moves.run;
-      agrees = record { of_shape = a.of_shape; members = members_after next moves agrees here; sent = said };
-    }
-
-    -- what was sent before still agrees
-    still_said : {h : protocol.History} {me : ℕ} → OwnMoves shape.faults me g h → All (MessageAgrees h) w.sent
-    still_said moves = messages_stay (reached_grows reached moves.run) w.sent a.sent
-
-    turned_bridged :
-        {me : ℕ} (m : Member) (event : turns.Event) → slice_get w.members me ≡ Some m →
-        ActBridged shape g me (turns.act_of event (node_of w.shape me m)) →
-        WorldBridged shape g (after_turn w me m.durable (turns.turn event (node_of w.shape me m))).world
-    turned_bridged {me = me} m event here b =
-        let n = node_of w.shape me m in
-        let act = turns.act_of event n in
-        let as_kept : NodeAgrees shape b.history me (node_with w.shape me act.node.durable act.node.volatile) = record {
-          of_shape = a.of_shape;
-          me = refl;
-          within = b.node.within;
-          term = b.node.term;
-          vote = b.node.vote;
-          log = b.node.log;
-          commit = b.node.commit;
-          role = b.node.role;
-          heard = b.node.heard;
-          needs = b.node.needs;
-        } in
-        changed_bridged (running_as act.node) _ b.moves as_kept here
-        (All-append (MessageAgrees b.history) w.sent _ (still_said b.moves) (All-same (MessageAgrees b.history) _ act.sends (sent_among-turned n act) b.sends))
-
     -- a message that was sent can be told to its receiver
-    aim_agrees : (inner : Inner) (aim : Aim) → aim_of w inner ≡ Some aim → IsTold shape g aim
-    aim_agrees (inners.Tick member word) aim e = subst (IsTold shape g) (same_Some _ _ e)
-        (λ n agrees. tick_bridged word agrees)
+    aim_agrees : (inner : Inner) (aim : Aim) → aim_of w inner ≡ Some aim → IsTold shape g w.book aim
+    aim_agrees (inners.Tick member word) aim e = subst (IsTold shape g w.book) (same_Some _ _ e)
+        (λ n agrees stand. tick_turned word reached agrees stand)
     aim_agrees (inners.Take frame) aim e = delivered (slice_get w.sent (frame - 1)) refl e where
       delivered :
-          (found : Option Message) → slice_get w.sent (frame - 1) ≡ found → option_map delivery_of found ≡ Some aim → IsTold shape g aim
+          (found : Option Message) → slice_get w.sent (frame - 1) ≡ found → option_map delivery_of found ≡ Some aim → IsTold shape g w.book aim
       delivered None here is_aim = cc
       delivered (Some m) here is_aim =
           let at_frame : MessageAgrees g (get_or w.sent (frame - 1) m) = a.sent (frame - 1) m (slice_get_within w.sent (frame - 1) m here) in
           let told : MessageAgrees g m = subst (MessageAgrees g) (get_or_from_slice_get w.sent (frame - 1) m m here) at_frame in
-          subst (IsTold shape g) (same_Some _ _ is_aim)
-          (λ n agrees. message_bridged m reached agrees told)
+          let stands_at : MessageStands w.book (get_or w.sent (frame - 1) m) = a.stand (frame - 1) m (slice_get_within w.sent (frame - 1) m here) in
+          let stands : MessageStands w.book m = subst (MessageStands w.book) (get_or_from_slice_get w.sent (frame - 1) m m here) stands_at in
+          subst (IsTold shape g w.book) (same_Some _ _ is_aim)
+          (λ n agrees stand. message_turned m reached is agrees told stand a.proposals stands)
 
     turn_as_bridged :
-        (aim : Aim) → IsTold shape g aim → (d : Durable) (running : Option Volatile) →
+        (aim : Aim) → IsTold shape g w.book aim → (d : Durable) (running : Option Volatile) →
         slice_get w.members aim.member ≡ Some (record { durable = d; running = running }) → WorldBridged shape g (turn_as after_turn w aim d running).world
     turn_as_bridged aim rule d None here = nothing_bridged
     turn_as_bridged aim rule d (Some volatile) here =
         let m : Member = record { durable = d; running = Some volatile } in
-        turned_bridged m aim.event here (rule (node_with w.shape aim.member d volatile) (a.members aim.member m here))
+        turned_bridged reached a m aim.event here (rule (node_with w.shape aim.member d volatile) (a.members aim.member m here) (a.logs aim.member m here))
 
     turn_of_bridged :
-        (aim : Aim) → IsTold shape g aim → (found : Option Member) →
+        (aim : Aim) → IsTold shape g w.book aim → (found : Option Member) →
         slice_get w.members aim.member ≡ found → WorldBridged shape g (turn_of after_turn w aim found).world
     turn_of_bridged aim rule None here = nothing_bridged
     turn_of_bridged aim rule (Some m) here = turn_as_bridged aim rule m.durable m.running here
@@ -146,8 +78,9 @@ module _
         WorldBridged shape g (down_as w me d running).world
     down_as_bridged me d None here = nothing_bridged
     down_as_bridged me d (Some volatile) here =
-        let moves = own_move (Restart me) tt in
-        changed_bridged (down_with d) w.sent moves (restarts (a.members me (record { durable = d; running = Some volatile }) here)) here (still_said moves)
+        changed_bridged reached a (down_with d) (restarts g me)
+        (restarted_agrees (a.members me (record { durable = d; running = Some volatile }) here) fresh refl (All-nil (HeardAgrees (after g (Restart me)) d.term me)))
+        here refl
 
     down_bridged : (me : ℕ) (found : Option Member) → slice_get w.members me ≡ found → WorldBridged shape g (down_of w me found).world
     down_bridged me None here = nothing_bridged
@@ -158,7 +91,7 @@ module _
         (me : ℕ) (d : Durable) (running : Option Volatile) → slice_get w.members me ≡ Some (record { durable = d; running = running }) →
         WorldBridged shape g (up_as w me d running).world
     up_as_bridged me d None here =
-        changed_bridged (record { durable = d; running = Some fresh }) w.sent (own_none g) (a.members me (record { durable = d; running = None }) here) here a.sent
+        changed_bridged reached a (record { durable = d; running = Some fresh }) (own_none g) (a.members me (record { durable = d; running = None }) here) here refl
     up_as_bridged me d (Some volatile) here = nothing_bridged
 
     up_bridged : (me : ℕ) (found : Option Member) → slice_get w.members me ≡ found → WorldBridged shape g (up_of w me found).world
@@ -179,22 +112,43 @@ unsaid_bridged :
 unsaid_bridged w now more is b = record {
   history = b.history;
   moves = b.moves;
-  agrees = record { of_shape = b.agrees.of_shape; members = b.agrees.members; sent = said_before (MessageAgrees b.history) w now more is b.agrees.sent };
+  agrees = record {
+    of_shape = b.agrees.of_shape;
+    many = b.agrees.many;
+    members = b.agrees.members;
+    sent = said_before (MessageAgrees b.history) w now more is b.agrees.sent;
+    proposals = b.agrees.proposals;
+    removals = b.agrees.removals;
+    commits = b.agrees.commits;
+    logs = b.agrees.logs;
+    stand = said_before (MessageStands now.book) w now more is b.agrees.stand;
+  };
 }
 
 -- after moves a member goes down
 down_later :
-    {shape : Shape} {g : protocol.History} → Reached shape.faults g → (w : World) (me : ℕ) → WorldBridged shape g w → WorldBridged shape g (step w (lines.Down me)).world
-down_later {shape = shape} {g = g} reached w me b =
-    let next = down_bridged (moves_trans shape.faults _ g b.history reached b.moves) b.agrees me (slice_get w.members me) refl in
+    {shape : Shape} {g : protocol.History} → Reached shape.faults g → IsShape shape → (w : World) (me : ℕ) → WorldBridged shape g w →
+    WorldBridged shape g (down_of w me (slice_get w.members me)).world
+down_later {shape = shape} {g = g} reached is w me b =
+    let next = down_bridged (moves_trans shape.faults _ g b.history reached b.moves) is b.agrees me (slice_get w.members me) refl in
     record { history = next.history; moves = moves_trans shape.faults g b.history next.history b.moves next.moves; agrees = next.agrees }
 
+happening_bridged :
+    {shape : Shape} {g : protocol.History} {w : World} → Reached shape.faults g → IsShape shape → WorldAgrees shape g w → (line : Line) →
+    WorldBridged shape g (happening w line).world
+happening_bridged {w = w} reached is a (lines.Do inner) = turn_at_bridged reached is a inner (aim_of w inner) refl
+happening_bridged {w = w} reached is a (lines.Down me) = down_bridged reached is a me (slice_get w.members me) refl
+happening_bridged {w = w} reached is a (lines.Up me) = up_bridged reached is a me (slice_get w.members me) refl
+happening_bridged {w = w} reached is a (lines.Show me) = show_bridged reached is a me (slice_get w.members me)
+happening_bridged {shape = shape} {g = g} {w = w} reached is a (lines.Stop call keep inner) =
+    stops_keep (WorldBridged shape g) unsaid_bridged (down_later reached is) w call keep (nothing_bridged reached is a) inner
+    (turn_at_bridged reached is a inner (aim_of w inner) refl)
+
+-- one event more counted
+counted : {shape : Shape} {g : protocol.History} {w : World} → WorldAgrees shape g w → WorldAgrees shape g (counting w)
+counted a = assumption a
+
 pub step_bridged :
-    {shape : Shape} {g : protocol.History} {w : World} → Reached shape.faults g → WorldAgrees shape g w → (line : Line) → WorldBridged shape g (step w line).world
-step_bridged {w = w} reached a (lines.Do inner) = turn_at_bridged reached a inner (aim_of w inner) refl
-step_bridged {w = w} reached a (lines.Down me) = down_bridged reached a me (slice_get w.members me) refl
-step_bridged {w = w} reached a (lines.Up me) = up_bridged reached a me (slice_get w.members me) refl
-step_bridged {w = w} reached a (lines.Show me) = show_bridged reached a me (slice_get w.members me)
-step_bridged {shape = shape} {g = g} {w = w} reached a (lines.Stop call keep inner) =
-    stops_keep (WorldBridged shape g) unsaid_bridged (down_later reached) w call keep (nothing_bridged reached a) inner
-    (turn_at_bridged reached a inner (aim_of w inner) refl)
+    {shape : Shape} {g : protocol.History} {w : World} → Reached shape.faults g → IsShape shape → WorldAgrees shape g w → (line : Line) →
+    WorldBridged shape g (step w line).world
+step_bridged reached is a line = happening_bridged reached is (counted a) line

@@ -7,12 +7,15 @@ use Rattle.entry_frames.specs.declared.peer.Peer.{Peer}
 use Rattle.entry_frames.specs.declared.peer.Peer.TheVariants as peers
 use Rattle.entry_frames.specs.declared.message.Message.{Message}
 use Rattle.entry_frames.specs.declared.message.Message.TheVariants as messages
+use Rattle.entry_frames.specs.declared.role.Role.{Role}
+use Rattle.entry_frames.specs.declared.role.Role.TheVariants.{Follower, Candidate, Preparing, Leader}
 use Rattle.craft_base.specs.Knowledge.{Heard, Told, Beat, From, Voted, Matched}
 use Rattle.world_model.specs.Nodes.{Node}
 use Rattle.world_model.specs.World.{Member, World, node_of}
 use Rattle.protocol.specs.History.{History}
 use Rattle.protocol.specs.Logs.{last_term, term_at}
 use Rattle.protocol.specs.Words.{need_at}
+use Rattle.bridge.specs.Traced.{AllStand, CommitAgrees, MessageStands, ProposalAgrees, RemovalAgrees}
 use Rattle.bridge.specs.Views.{role_seen, log_seen}
 
 -- a candidate that asks for votes stood in the term, with a log that ends in that term and at that index
@@ -47,9 +50,9 @@ PeerAgrees h term sender receiver (peers.Ask start) = Unit {0}
 PeerAgrees h term sender receiver (peers.Answer start last slots) = Unit {0}
 
 -- what one member says goes to another, and is true. It stays so while history grows.
-pub record SaidAgrees (h : History) (from to at : ℕ) (body : Peer) : Type 0 where
-  pub apart : from ≢ to
-  pub body_agrees : PeerAgrees h at from to body
+pub record SaidAgrees (h : History) (sender receiver term : ℕ) (body : Peer) : Type 0 where
+  pub apart : sender ≢ receiver
+  pub body_agrees : PeerAgrees h term sender receiver body
 
 -- nothing is asked of what clients and members say to each other
 abbrev pub MessageAgrees : History → Message → Type 0
@@ -70,8 +73,21 @@ HeardAgrees h term me (From sender last told) = ToldAgrees h term me sender told
 abbrev pub AllNeed : ℕ → History → Type 0
 AllNeed need h = (term index : ℕ) → 0 < index → index ≤ length (h.led term) → need_at h term index ≡ need
 
--- the node at a position of the world is that member of the history, and all that it heard is true. That all entries need what
--- the shape says is of the history alone: a node that leads counts by it
+-- it was heard when the last index of the node's log was at most that one
+abbrev pub ItemWithin : (bound : ℕ) → Heard → Type 0
+ItemWithin bound Beat = Unit {0}
+ItemWithin bound (From sender last told) = last ≤ bound
+
+-- What a node that stands for election or has won heard, it heard with a log no longer than its log is now, and the index from which
+-- on a leader sends first is at most the one behind its log. Of a follower nothing is said, since it may cut its log.
+abbrev pub KnowsWithin : Role → (last first : ℕ) → List Heard → Type 0
+KnowsWithin Follower last first heard = Unit {0}
+KnowsWithin Candidate last first heard = All (ItemWithin last) heard
+KnowsWithin Preparing last first heard = All (ItemWithin last) heard
+KnowsWithin Leader last first heard = (first ≤ last + 1) × All (ItemWithin last) heard
+
+-- The node at a position of the world is that member of the history, and all that it heard is true. That all entries need what
+-- the shape says is of the history alone: a node that leads counts by it.
 pub record NodeAgrees (shape : Shape) (h : History) (member : ℕ) (n : Node) : Type 0 where
   pub of_shape : n.shape ≡ shape
   pub me : n.me ≡ member
@@ -82,10 +98,18 @@ pub record NodeAgrees (shape : Shape) (h : History) (member : ℕ) (n : Node) : 
   pub commit : h.commit member ≡ n.durable.commit
   pub role : h.role member ≡ role_seen n.volatile.role
   pub heard : All (HeardAgrees h n.durable.term member) n.volatile.heard
+  pub knows : KnowsWithin n.volatile.role (length n.durable.log) n.volatile.first n.volatile.heard
   pub needs : AllNeed shape.need h
 
--- each member agrees, as the node as which it runs or would start, and each message that was ever sent
+-- Each member agrees, as the node as which it runs or would start, and each message that was ever sent. So does all that was
+-- proposed, removed and committed, and each entry of a log or a message stands in the book.
 pub record WorldAgrees (shape : Shape) (h : History) (w : World) : Type 0 where
   pub of_shape : w.shape ≡ shape
+  pub many : length w.members ≡ members_of shape
   pub members : (me : ℕ) (m : Member) → slice_get w.members me ≡ Some m → NodeAgrees shape h me (node_of w.shape me m)
   pub sent : All (MessageAgrees h) w.sent
+  pub proposals : All (ProposalAgrees h) w.book
+  pub removals : All (RemovalAgrees h) w.cuts
+  pub commits : All (CommitAgrees h) w.commits
+  pub logs : (me : ℕ) (m : Member) → slice_get w.members me ≡ Some m → AllStand w.book 1 m.durable.log
+  pub stand : All (MessageStands w.book) w.sent

@@ -1,7 +1,10 @@
 -- What is proved of every run: of each shape and each list of events in range.
-use Rattle.std.specs.Prelude.{List}
+use Rattle.std.specs.Prelude.{◌≡◌, ◌≢◌, ◌≤◌, List, length, Some, slice_get}
 use Rattle.craft_base.specs.Shape.{Shape}
-use Rattle.world_model.specs.Safety.{EverLed, IsRun, OneLeaderATerm}
+use Rattle.craft_base.specs.declared.command.Entry.{Entry}
+use Rattle.entry_frames.specs.Logs.{entry_at}
+use Rattle.world_model.specs.Safety.{EverLed, IsIn, IsRun, OneLeaderATerm, committed}
+use Rattle.world_model.specs.Traces.{LeaderCommit, Removal}
 use Rattle.world_model.specs.World as world
 use Rattle.world_model.specs.declared.line.Line.{Line}
 use Rattle.protocol.specs.History as protocol
@@ -19,6 +22,18 @@ OneLeaderInEveryRun = (shape : Shape) (events : List Line) → IsRun shape event
 abbrev pub three : Shape
 three = record { faults = 1; need = 1 }
 
--- and there is a run in which a member leads, so that the law doesn't speak of nothing: member 0 of three, in term 1
+-- and there is a run in which a member is elected, so that the law doesn't speak of nothing: member 0 of three, in term 1
 abbrev pub SomeRunElects : Type 0
 SomeRunElects = (events : List Line) × IsRun three events × EverLed three events 1 0
+
+-- a run in which an entry is committed, which a leader counted
+abbrev pub SomeRunCommits : Type 0
+SomeRunCommits =
+    (events : List Line) × IsRun three events × (length (committed (world.run three events)) ≡ 1) × (length (world.run three events).commits ≡ 1)
+
+-- and one in which a member removes an entry, and a leader of the remover's term or of a lower one commits another in its place
+abbrev pub SomeRunRemoves : Type 0
+SomeRunRemoves =
+    (events : List Line) × (cut : Removal) × (commit : LeaderCommit) × (removed : Entry) × (kept : Entry) × IsRun three events
+    × IsIn cut (world.run three events).cuts × IsIn commit (world.run three events).commits × (commit.term ≤ cut.term)
+    × (slice_get cut.entries 0 ≡ Some removed) × (entry_at commit.log cut.index ≡ Some kept) × (removed.term ≢ kept.term)

@@ -4,7 +4,7 @@
 //! argument.
 #![tactic(auto)]
 
-ghost use Rattle.bridge.specs.Laws.{OneLeaderInEveryRun, RunsAreBridged, SomeRunElects};
+ghost use Rattle.bridge.specs.Laws.{OneLeaderInEveryRun, RunsAreBridged, SomeRunCommits, SomeRunElects, SomeRunRemoves};
 
 /// Every run of a cluster is a run of the protocol: after each front of the events there is a history, made of the one before
 /// by moves, with which each member and each message that was ever sent agrees.
@@ -17,7 +17,14 @@ pub fn one_leader_a_term()
     ensures { OneLeaderInEveryRun }
 {}
 
-/// There is a run in which a member leads.
+/// There is a run in which a member is elected.
 pub fn some_run_elects()
     ensures { SomeRunElects }
+{}
+
+/// There is a run in which an entry is committed, and one in which an entry that a lost leader added is removed and the leader that
+/// came after it commits another in its place.
+pub fn some_run_commits()
+    ensures commits { SomeRunCommits }
+    ensures removes { SomeRunRemoves }
 {}

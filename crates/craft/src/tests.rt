@@ -11,7 +11,7 @@ use std::test::Fail;
 const ELECTION: &[u8] = b"tick 0 0\ntick 0 0\ntick 0 0\ntake 1\ntake 3\n";
 
 const ELECTION_TEXT: &[u8] =
-    b"1 done\n2 done\n3 done\nrole 0 candidate 1\nsend 1 0 1 vote 1 0 0\nsend 2 0 2 vote 1 0 0\n4 done\nrole 1 follower 1\nsend 3 1 0 voted 1 yes\n5 done\nrole 0 leader 1\n";
+    b"1 done\n2 done\n3 done\nrole 0 candidate 1\nsend 1 0 1 vote 1 0 0\nsend 2 0 2 vote 1 0 0\n4 done\nrole 1 follower 1\nsend 3 1 0 voted 1 yes\n5 done\nrole 0 leader 1\nsend 4 0 1 append 1 0 0 0 w\nsend 5 0 2 append 1 0 0 0 w\n";
 
 /// The words of a command line.
 fn words_of(alloc: Global, line: &str) -> Result<Vec<String>, Fail> {

@@ -7,3 +7,4 @@ pub mod Logs
 pub mod Batches
 pub mod Bodies
 pub mod Durable
+pub mod Stored

@@ -9,9 +9,9 @@ use Rattle.entry_frames.specs.declared.record_kind.RecordKind.{RecordKind}
 use Rattle.entry_frames.specs.declared.record_kind.RecordKind.TheVariants as kinds
 use Rattle.entry_frames.specs.declared.record_view.RecordView.{RecordView}
 use Rattle.entry_frames.specs.declared.record_view.RecordView.TheVariants as views
-use Rattle.entry_frames.specs.Formats.{Value, U8, U32, U64, Cursor, Taken, ◌>>=◌, number_bytes, spelling, Fits, number_at, reading}
+use Rattle.entry_frames.specs.Formats.{Value, U8, U32, U64, Cursor, Taken, ◌>>=◌, number_bytes, spelling, Fits, reading}
 use Rattle.entry_frames.specs.Limits.{greatest, longest_value}
-use Rattle.entry_frames.specs.Records.{Record, record_byte, record_kind, record_kind_with, is_record_byte, record_fields_of, record_fields, added, Add, Whole}
+use Rattle.entry_frames.specs.Records.{record_byte, record_kind, record_kind_with, record_fields_of, record_fields, added, Add, Whole}
 use Rattle.entry_frames.specs.RecordViews.{HasK}
 use Rattle.entry_frames.specs.Replies.{member_byte, member_with}
 use Rattle.entry_frames.specs.Entries.{entry_fields}
@@ -37,15 +37,6 @@ pub record_faithful : (k : ℕ) → Faithful (record_fields k) (λ r. Unit {0})
 record_faithful k = λ byte byte_fits byte_counts.
     owes_less (record_fields_of k (record_kind_with byte)) (λ r. record_byte (record_kind r) ≡ record_byte (record_kind_with byte)) (λ r. Unit {0} × (record_byte (record_kind r) ≡ byte))
     (λ r o. (tt, o ∙ eqb-true _ _ byte_fits.1)) (rest_faithful k (record_kind_with byte))
-
--- the kind, and then what depends on it
-pub record_begins : (k : ℕ) (cursor behind_kind : Cursor) (kind : RecordKind) (byte : ℕ) (r : Result (Taken Record) FrameFault)
-    → kind ≡ record_kind_with byte → number_at true U8 is_record_byte cursor ≡ Ok (record { value = byte; cursor = behind_kind })
-    → reading (record_fields_of k kind) behind_kind ≡ r → reading (record_fields k) cursor ≡ r
-record_begins k cursor behind_kind kind byte r kind_is kind_at rest =
-    ap (λ (t : Result (Taken ℕ) FrameFault). t >>= λ n. reading (record_fields_of k (record_kind_with n.value)) n.cursor) kind_at
-    ∙ ap (λ (other : RecordKind). reading (record_fields_of k other) behind_kind) (sym kind_is)
-    ∙ rest
 
 -- an entry that is added, and its fault
 pub add_read : (k : ℕ) (cursor : Cursor) (t : Taken Entry) → reading (entry_fields k) cursor ≡ Ok t

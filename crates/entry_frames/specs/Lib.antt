@@ -16,3 +16,4 @@ pub mod MessageFields
 pub mod Durable
 pub mod Bodies
 pub mod Bulk
+pub mod Stored

@@ -16,7 +16,7 @@ group_at k at [] n p here = cc
 group_at k at (records ∷ all) zero p here = (records, refl, ap (λ (q : Placed). q.body) (sym (same_Some _ p here)))
 group_at k at (records ∷ all) (suc n) p here = group_at k (at + (9 + length (body_of k records))) all n p here
 
-pub group_can :
+group_can :
     (g : Shape) (d : Durable) (all : List (List Record)) (n : ℕ) (records : List Record) → AreGroups g d all → slice_get all n ≡ Some records → IsGroupOf g (after_groups d (take n all)) records
 group_can g d [] n records are here = cc
 group_can g d (first ∷ all) zero records are here = subst (IsGroupOf g d) (same_Some first records here) are.0

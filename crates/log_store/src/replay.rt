@@ -32,7 +32,7 @@ impl LogStore {
     }
 
     /// Applies a record. The only error is want of memory.
-    fn apply(self, item: &RecordView<'_>) -> Result<LogStore, OutOfMemory>
+    pub fn apply(self, item: &RecordView<'_>) -> Result<LogStore, OutOfMemory>
         requires need { HasK self.shape.need item.now }
         requires can { CanApply self.shape self.kept (record_of item.now) }
         ensures shape { IfOk result (λ store. store.shape ≡ self.shape) }

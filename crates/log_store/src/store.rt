@@ -4,7 +4,7 @@ ghost use Rattle.entry_frames.specs.Durable.{born, applied, complete_at, CanAppl
 ghost use Rattle.entry_frames.specs.Records.{Term, Add, Cut, Whole, Commit};
 ghost use Rattle.entry_frames.specs.Logs.{IsLog};
 ghost use Rattle.entry_frames.specs.Bulk.{bulk_of};
-ghost use Rattle.log_store.specs.Stores.{IsStored};
+ghost use Rattle.entry_frames.specs.Stored.{DurableInRange};
 
 use craft_base::{Blob, Entry, Form, OutOfMemory, Shape};
 use entry_frames::{EntryView, LogView};
@@ -28,7 +28,8 @@ pub struct LogStore {
 impl Model for LogStore {
     ghost use Rattle.std.specs.Prelude.{◌≡◌};
     ghost use Rattle.entry_frames.specs.Bulk.{bulk_of};
-    ghost use Rattle.log_store.specs.Stores.{Stored, IsStored};
+    ghost use Rattle.entry_frames.specs.Stored.{IsStored};
+    ghost use Rattle.log_store.specs.Stores.{Stored};
 
     ghost Value = { Stored };
 
@@ -59,11 +60,17 @@ impl LogStore {
         }
     }
 
+    /// Each entry is in its ranges, the terms are at least 1, don't fall and are at most the state's, which is in range, and the
+    /// log isn't too long or committed past its end.
+    pub fn law(&self)
+        ensures { DurableInRange self.now.shape self.now.kept }
+    {
+        let _ = &self.term;
+    }
+
     /// The term: 0 before any record, else 1 to 2^62.
     pub fn term(&self) -> u64
-        ensures value { result ≡ self.now.kept.term }
-        // Each entry is in its ranges, and the terms are at least 1, don't fall and are at most this one, which is in range.
-        ensures stored { IsStored self.now.shape self.now.kept.term self.now.kept.log }
+        ensures { result ≡ self.now.kept.term }
     {
         self.term
     }

@@ -1,8 +1,13 @@
-mod Voting
-mod Sending
 mod Acting
-mod Waiting
+mod Knowing
+mod Sending
+mod Lacking
+mod Batches
+mod Ranging
+mod Choosing
+mod Recorded
+mod Valuing
 mod Taking
-mod Telling
-pub mod Ranging
-mod Recording
+mod Hearing
+mod Told
+pub mod Turning

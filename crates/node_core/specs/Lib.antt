@@ -1,3 +1,5 @@
 pub mod Stands
+pub mod Acting
+pub mod Appending
 pub mod Turns
-pub mod Says
+pub mod Telling

@@ -1,17 +1,13 @@
 -- When a running member stands for a node of the definitions.
-use Rattle.std.specs.Prelude.{◌≡◌, ℕ, List, ◌++◌, map, Option}
-use Rattle.std.specs.List.{range_with_len}
-use Rattle.craft_base.specs.Knowledge.{Heard, granted_by}
+use Rattle.std.specs.Prelude.{◌≡◌, ℕ, ◌≤◌, Option}
 use Rattle.craft_base.specs.Shape.{Shape}
 use Rattle.entry_frames.specs.Durable.{Durable}
-use Rattle.entry_frames.specs.Records.{record_spellings}
 use Rattle.entry_frames.specs.declared.role.Role.{Role}
+use Rattle.heard_book.specs.Kept as known
 use Rattle.world_model.specs.Nodes.{Node}
-use Rattle.world_model.specs.Rules.Acts as acts
-use Rattle.node_core.specs.declared.act.Act.{Act}
-use Rattle.node_core.specs.declared.voters.Voters.{Voters}
+use Rattle.world_model.specs.Ranges.{NodeInRange}
 
--- what is kept of a member: of what it heard, who granted its vote
+-- what is kept of a member: all that a node has, and in place of all that it heard what it knows by it
 pub record Kept : Type 0 where
   pub shape : Shape
   pub me : ℕ
@@ -19,41 +15,22 @@ pub record Kept : Type 0 where
   pub role : Role
   pub quiet : ℕ
   pub hint : Option ℕ
-  pub voters : Voters
+  pub heard : known.Kept
 
-abbrev pub kept_voters : List Heard → Voters
-kept_voters heard = record { granted = map (λ member. granted_by member heard) (range_with_len 0 15) }
+-- the member is that node, as far as it keeps it: what it knows stands for what the node heard, and tells who holds which entry whole
+-- above the commit index at least
+pub record Stands (core : Kept) (n : Node) : Type 0 where
+  pub of_shape : core.shape ≡ n.shape
+  pub of_me : core.me ≡ n.me
+  pub of_durable : core.durable ≡ n.durable
+  pub of_role : core.role ≡ n.volatile.role
+  pub of_quiet : core.quiet ≡ n.volatile.quiet
+  pub of_hint : core.hint ≡ n.volatile.hint
+  pub of_heard : known.Stands core.heard n.shape n.volatile.heard n.volatile.first
+  pub settled : core.heard.window.settled ≤ n.durable.commit
 
--- there is something that was heard, of which they are kept
-abbrev pub AreHeard : Voters → Type 0
-AreHeard voters = (heard : List Heard) × (voters ≡ kept_voters heard)
-
-abbrev pub kept_node : Node → Kept
-kept_node n =
-    record {
-      shape = n.shape;
-      me = n.me;
-      durable = n.durable;
-      role = n.volatile.role;
-      quiet = n.volatile.quiet;
-      hint = n.volatile.hint;
-      voters = kept_voters n.volatile.heard;
-    }
-
--- the member is that node, as far as it keeps it
-abbrev pub Stands : Kept → Node → Type 0
-Stands core n = core ≡ kept_node n
-
--- Whatever node the member stood for, it now stands for the one that the change makes of it.
-abbrev pub Becomes : (Node → Node) → Kept → Kept → Type 0
-Becomes change old new = (n : Node) → Stands old n → Stands new (change n)
-
--- the member stands for a rule's node, and the rule's records and messages were added
-pub record IsActed (k : ℕ) (act : acts.Act) (new : Kept) (before after : Act) : Type 0 where
-  pub node : Stands new act.node
-  pub records : after.group ≡ before.group ++ record_spellings k act.records
-  pub sends : after.sends.items ≡ before.sends.items ++ act.sends
-
--- Whatever node the member stood for, the rule was carried out.
-abbrev pub Acts : (Node → acts.Act) → Kept → Kept → Act → Act → Type 0
-Acts rule old new before after = (n : Node) → Stands old n → IsActed old.shape.need (rule n) new before after
+-- there is a node for which it stands, whose numbers are in range
+pub record IsRanged (core : Kept) : Type 0 where
+  pub node : Node
+  pub stands : Stands core node
+  pub ranged : NodeInRange node.shape node.me node

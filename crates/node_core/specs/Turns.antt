@@ -1,5 +1,6 @@
 -- What a running member is told, and what is left of its turn.
-use Rattle.std.specs.Prelude.{◌≡◌, ℕ, [], All, ◌&&◌, ◌==◌, if◌then◌else◌, Option, None, Some}
+use Rattle.std.specs.Prelude.{◌≡◌, ℕ, [], All, Bool, ◌&&◌, ◌==◌, nat_lt, if◌then◌else◌, Option, None, Some}
+use Rattle.craft_base.specs.Shape.{Shape}
 use Rattle.entry_frames.specs.Bodies.{HaveSpellings}
 use Rattle.entry_frames.specs.Durable.{CanApplyAll}
 use Rattle.entry_frames.specs.Records.{record_spellings}
@@ -23,14 +24,24 @@ event_of (events.Tick word) = turns.Tick word
 event_of (events.Frame view) = turns.Frame view.frame
 event_of (events.Call place request) = turns.Call place request.now
 
+-- a frame was read as one of that cluster
+abbrev pub IsReadIn : Shape → Event → Type 0
+IsReadIn shape (events.Frame view) = view.shape ≡ shape
+IsReadIn shape _ = Unit {0}
+
 -- a frame is of another member of the cluster to this one
-abbrev pub IsFor : Kept → Event → Type 0
-IsFor core event = EventInRange core.shape core.me (event_of event)
+pub record IsFor (core : Kept) (event : Event) : Type 0 where
+  pub ranged : EventInRange core.shape core.me (event_of event)
+  pub read : IsReadIn core.shape event
 
 -- the role and the term now, where one of them is another than before
 abbrev pub change_of : Role → ℕ → Role → ℕ → Option Output
 change_of role_before term_before role term =
     if turns.is_same_role role_before role && (term_before == term) then None else Some (outputs.Role role term)
+
+-- the commit index now, where it grew
+abbrev pub growth_of : ℕ → ℕ → Option Output
+growth_of commit_before commit = if nat_lt commit_before commit then Some (outputs.Commit commit) else None
 
 -- What is left of the turn of a member that stood for a node. The member is the same one of the same cluster, and stands for the
 -- turn's node. The group spells the turn's records, each of which has a spelling and which can be applied, in order, to what the

@@ -1,49 +1,87 @@
-//! What a rule records and sends.
-ghost use Rattle.std.specs.Prelude.{◌≡◌, ◌≢◌, Some, ◌++◌, ◌∷◌, [], ℕ, IfOk, OnOk};
-ghost use Rattle.entry_frames.specs.Formats.{spelling};
-ghost use Rattle.entry_frames.specs.Records.{Term, record_fields};
+//! What a member does in a turn.
+ghost use Rattle.std.specs.Prelude.{◌≡◌, ◌++◌, ◌∷◌, [], IfOk, OnOk};
+ghost use Rattle.entry_frames.specs.Durable.{CanApply, applied};
+ghost use Rattle.entry_frames.specs.Formats.{Fits};
+ghost use Rattle.entry_frames.specs.RecordViews.{HasK, record_of};
+ghost use Rattle.entry_frames.specs.Records.{record_fields};
 
+use crate::member::Member;
 use craft_base::OutOfMemory;
 use entry_frames::{GroupBuilder, Message, RecordView};
-use std::alloc::Global;
 
-/// What was recorded and sent in a turn so far.
+/// A member, and what it recorded and sent in a turn so far.
 #[derive(Drop)]
-pub struct Act {
+pub(crate) struct Act {
+    pub member: Member,
     /// The records, which have to be in the journal before anything is told.
     pub group: GroupBuilder,
+    /// From which indexes on entries were removed.
+    pub cuts: Vec<u64>,
+    /// At which indexes a fragment became whole.
+    pub wholes: Vec<u64>,
     /// The messages, in order.
     pub sends: Vec<Message>,
 }
 
 impl Act {
-    /// Nothing recorded and nothing sent. The only error is want of memory.
-    pub fn new(alloc: Global) -> Result<Act, OutOfMemory>
+    ghost use Rattle.node_core.specs.Acting.{Acts, cut_indexes, whole_indexes};
+    ghost use Rattle.world_model.specs.Rules.Acts.{recording, sending, stays};
+
+    /// Nothing recorded and nothing sent yet. The only error is want of memory.
+    pub fn new(member: Member) -> Result<Act, OutOfMemory>
+        ensures member { IfOk result (λ act. act.member ≡ member) }
         ensures group { IfOk result (λ act. act.group ≡ []) }
+        ensures cuts { IfOk result (λ act. act.cuts.items ≡ []) }
+        ensures wholes { IfOk result (λ act. act.wholes.items ≡ []) }
         ensures sends { IfOk result (λ act. act.sends.items ≡ []) }
     {
+        let alloc = member.alloc;
         Ok(Act {
+            member,
             group: GroupBuilder::new(alloc)?,
+            cuts: Vec::new(alloc),
+            wholes: Vec::new(alloc),
             sends: Vec::new(alloc),
         })
     }
 
-    /// Records a term and the vote in it. The only error is want of memory.
-    pub fn record_term(self, term: u64, vote: Option<u8>) -> Result<Act, OutOfMemory>
-        requires { vote ≢ Some 255 }
-        ensures group { IfOk result (λ act. (k : ℕ) → act.group ≡ self.group ++ spelling (record_fields k) (Term term vote)) }
-        ensures sends { IfOk result (λ act. act.sends.items ≡ self.sends.items) }
+    /// Records a change of what outlives a crash, and carries it out. The only error is want of memory.
+    pub fn record(self, item: &RecordView<'_>) -> Result<Act, OutOfMemory>
+        requires k { HasK self.member.store.shape.need item.now }
+        requires can { CanApply self.member.store.shape self.member.store.kept (record_of item.now) }
+        requires fits { Fits (record_fields self.member.store.shape.need) (record_of item.now) }
+        ensures acts { IfOk result (Acts (λ n. recording (record_of item.now) (stays n)) self) }
+        ensures kept { IfOk result (λ after. after.member.store.kept ≡ applied self.member.store.kept (record_of item.now)) }
+        ensures shape { IfOk result (λ after. after.member.store.shape ≡ self.member.store.shape) }
     {
+        let mut act = self;
+        act.note(item)?;
         Ok(Act {
-            group: self.group.put(&RecordView::Term(term, vote))?,
-            sends: self.sends,
+            member: act.member.apply(item)?,
+            group: act.group.put(item)?,
+            cuts: act.cuts,
+            wholes: act.wholes,
+            sends: act.sends,
         })
+    }
+
+    /// Notes what is told of a change.
+    fn note(&mut self, item: &RecordView<'_>) -> Result<(), OutOfMemory>
+        ensures cuts { OnOk result (self.new.cuts.items ≡ self.old.cuts.items ++ cut_indexes (record_of item.now ∷ [])) }
+        ensures wholes { OnOk result (self.new.wholes.items ≡ self.old.wholes.items ++ whole_indexes (record_of item.now ∷ [])) }
+        ensures rest { OnOk result (self.new ≡ record self.old { cuts = self.new.cuts; wholes = self.new.wholes }) }
+    {
+        match item {
+            RecordView::Cut(index) => self.cuts.push(*index)?,
+            RecordView::Whole(index, _) => self.wholes.push(*index)?,
+            RecordView::Term(..) | RecordView::Add(_) | RecordView::Commit(_) => {}
+        }
+        Ok(())
     }
 
     /// Sends a message behind the others. The only error is want of memory.
     pub fn send(self, message: Message) -> Result<Act, OutOfMemory>
-        ensures group { IfOk result (λ act. act.group ≡ self.group) }
-        ensures sends { IfOk result (λ act. act.sends.items ≡ self.sends.items ++ message ∷ []) }
+        ensures { IfOk result (Acts (λ n. sending (message ∷ []) (stays n)) self) }
     {
         let mut act = self;
         act.sends.push(message)?;

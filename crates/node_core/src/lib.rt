@@ -6,13 +6,13 @@ mod act;
 mod event;
 mod member;
 mod rules;
-mod say;
+mod running;
+mod telling;
 mod turn;
-mod voters;
 
 pub use event::Event;
-pub use member::Core;
 pub use peer_frames::{Output, Role};
+pub use running::Core;
 pub use turn::Turned;
 
 #[cfg(test)]

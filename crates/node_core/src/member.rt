@@ -1,88 +1,61 @@
-//! A member as it runs.
-ghost use Rattle.std.specs.Prelude.{◌≡◌, ◌<◌, IfOk};
-ghost use Rattle.craft_base.specs.Shape.{members_of};
-ghost use Rattle.world_model.specs.Nodes.{started};
-ghost use Rattle.node_core.specs.Stands.{Stands};
+//! A member as it runs, inside of a turn.
+ghost use Rattle.std.specs.Prelude.{◌≡◌, [], IfOk, OnOk};
+ghost use Rattle.entry_frames.specs.Durable.{CanApply, applied};
+ghost use Rattle.entry_frames.specs.RecordViews.{HasK, record_of};
+ghost use Rattle.heard_book.specs.Kept as known;
 
-use crate::voters::Voters;
 use craft_base::{MemberId, OutOfMemory, Shape};
+use entry_frames::RecordView;
+use heard_book::Heard;
 use log_store::LogStore;
 use peer_frames::Role;
 use std::alloc::Global;
-use std::marker::Model;
 
-/// A member of the cluster as it runs, over the state that its journal leaves.
+/// What a member keeps while it runs.
 #[derive(Drop)]
-pub struct Core {
-    pub(crate) alloc: Global,
-    pub(crate) shape: Shape,
-    pub(crate) me: MemberId,
-    pub(crate) store: LogStore,
-    pub(crate) role: Role,
+pub(crate) struct Member {
+    pub alloc: Global,
+    pub shape: Shape,
+    pub me: MemberId,
+    /// What outlives a crash.
+    pub store: LogStore,
+    pub role: Role,
     /// How many ticks have come since it heard of a leader or a candidate, at most 100.
-    pub(crate) quiet: u64,
+    pub quiet: u64,
     /// Who leads the term, as far as it knows.
-    pub(crate) hint: Option<MemberId>,
-    /// Who granted it a vote in this term.
-    pub(crate) voters: Voters,
+    pub hint: Option<MemberId>,
+    /// What it knows in this term of the others.
+    pub heard: Heard,
 }
 
-impl Model for Core {
-    ghost use Rattle.std.specs.Prelude.{◌≡◌, ◌<◌};
-    ghost use Rattle.craft_base.specs.Shape.{members_of};
-    ghost use Rattle.node_core.specs.Stands.{AreHeard, Kept};
-
-    ghost Value = { Kept };
-
-    ghost view = { λ core. record {
-      shape = core.shape;
-      me = core.me;
-      durable = core.store.kept;
-      role = core.role;
-      quiet = core.quiet;
-      hint = core.hint;
-      voters = core.voters;
-    } };
-
-    ghost invariant = { λ core. (core.store.shape ≡ core.shape) × (core.me < members_of core.shape) × AreHeard core.voters };
-}
-
-impl Core {
-    /// A member that starts over what its journal left: a follower without a hint. The only error is want of memory.
-    pub fn boot(
-        alloc: Global,
-        shape: &Shape,
-        me: MemberId,
-        store: LogStore,
-    ) -> Result<Core, OutOfMemory>
-        requires store { store.shape ≡ shape.now }
-        requires member { me < members_of shape.now }
-        ensures { IfOk result (λ core. Stands core (started shape.now me store.kept)) }
+impl Member {
+    /// Carries out a change of what outlives a crash. The only error is want of memory.
+    pub fn apply(self, item: &RecordView<'_>) -> Result<Member, OutOfMemory>
+        requires k { HasK self.store.shape.need item.now }
+        requires can { CanApply self.store.shape self.store.kept (record_of item.now) }
+        ensures store { IfOk result (λ after. after.store.kept ≡ applied self.store.kept (record_of item.now)) }
+        ensures shape { IfOk result (λ after. after.store.shape ≡ self.store.shape) }
+        ensures rest { IfOk result (λ after. after ≡ record self { store = after.store }) }
     {
-        Ok(Core {
-            alloc,
-            shape: *shape,
-            me,
-            store,
-            role: Role::Follower,
-            quiet: 0,
-            hint: None,
-            voters: Voters::none(),
+        Ok(Member {
+            alloc: self.alloc,
+            shape: self.shape,
+            me: self.me,
+            store: self.store.apply(item)?,
+            role: self.role,
+            quiet: self.quiet,
+            hint: self.hint,
+            heard: self.heard,
         })
     }
 
-    /// Its role.
-    pub fn role(&self) -> Role
-        ensures { result ≡ self.now.role }
+    /// Forgets all that it heard, as a new term begins. The only error is want of memory.
+    pub fn forget(&mut self) -> Result<(), OutOfMemory>
+        ensures heard { OnOk result (known.Stands self.new.heard self.old.shape [] 0) }
+        ensures settled { OnOk result (self.new.heard.window.settled ≡ 0) }
+        ensures rest { OnOk result (self.new ≡ record self.old { heard = self.new.heard }) }
     {
-        self.role
-    }
-
-    /// What outlives a crash of it.
-    pub fn store(&self) -> &LogStore
-        ensures shape { result.now.shape ≡ self.now.shape }
-        ensures kept { result.now.kept ≡ self.now.durable }
-    {
-        &self.store
+        self.heard = Heard::new(self.alloc, &self.shape, self.me)?;
+        Ok(())
     }
 }

@@ -1,4 +1,9 @@
 //! The rules of a turn, one file a rule.
+mod append;
+mod applying;
+mod matched;
+mod prepare;
+mod say;
 mod terms;
 mod tick;
 mod vote;

@@ -1,8 +1,12 @@
 //! What the contracts don't say: that calls succeed, on turns worked out by hand.
-use crate::{Core, Event, Output, Role};
-use craft_base::{MemberId, Shape};
+ghost use Rattle.std.specs.Prelude.{IfOk};
+ghost use Rattle.node_core.specs.Turns.{IsFor};
+
+use crate::{Core, Event, Output, Role, Turned};
+use craft_base::{Form, MemberId, Shape};
+use entry_frames::{Batch, Kind};
 use log_store::LogStore;
-use peer_frames::{Message, Peer};
+use peer_frames::{Message, MessageView, Peer};
 use std::alloc::Global;
 use std::process::Abort;
 use std::test::Fail;
@@ -15,56 +19,201 @@ fn started(alloc: Global, number: u8) -> Result<Core, Fail> {
     Ok(Core::boot(alloc, &shape, me, LogStore::new(alloc, &shape))?)
 }
 
-/// The output sends the request of member 0 in term 1, whose log is empty, to that member.
-fn asks(rt: &impl Abort, output: &Output, member: u8) -> Result<(), Fail> {
-    let Output::Send { message } = output else {
-        return Err("nothing is sent".into());
-    };
-    let Message::Peer {
-        from,
-        to,
-        term,
-        body,
-    } = message
-    else {
+/// The event that this member is told the message which these bytes are.
+fn event_for<'a>(core: &Core, frame: &'a [u8]) -> Result<Event<'a>, Fail>
+    ensures { IfOk result (λ event. IsFor core.now event) }
+{
+    let view = MessageView::read(&core.member.shape, frame)?;
+    let Kind::Peer(_) = view.message_kind() else {
         return Err("no message of a member".into());
     };
-    assert_eq!(rt; (from.number(), to.number(), *term), (0, member, 1));
-    let Peer::Vote { last_term, last } = body else {
-        return Err("no request for a vote".into());
-    };
-    assert_eq!(rt; (*last_term, *last), (0, 0), "to {member}");
+    if view.to() != core.member.me {
+        return Err("a message to another member".into());
+    }
+    Ok(Event::Frame(view))
+}
+
+/// The turn of a message, which these bytes are.
+fn take(core: Core, frame: &[u8]) -> Result<(Core, Turned), Fail> {
+    let event = event_for(&core, frame)?;
+    Ok(core.turn(&event)?)
+}
+
+// ---- what is told, as text
+
+/// A letter for each entry: w for a whole one, p for a part.
+fn forms_text(alloc: Global, entries: &Batch) -> Result<String, Fail> {
+    let mut text = String::new(alloc);
+    for n in 0..entries.len() {
+        let entry = entries.at(n).ok_or("no such entry")?;
+        text.push_str(match entry.form {
+            Form::Whole(_) => "w",
+            Form::Part(_) => "p",
+        })?;
+    }
+    Ok(text)
+}
+
+/// What a member says to another one.
+fn said_text(alloc: Global, body: &Peer) -> Result<String, Fail> {
+    Ok(match body {
+        Peer::Vote { last_term, last } => format!(in alloc; "vote {last_term} {last}")?,
+        Peer::VoteReply { granted } => format!(in alloc; "voted {granted}")?,
+        Peer::Append {
+            prev,
+            prev_term,
+            commit,
+            entries,
+        } => {
+            let forms = forms_text(alloc, entries)?;
+            format!(in alloc; "append {prev} {prev_term} {commit} {forms}")?
+        }
+        Peer::Matched { prev, count, mask } => format!(in alloc; "matched {prev} {count} {mask}")?,
+        Peer::Refused { next } => format!(in alloc; "refused {next}")?,
+        Peer::Ask { .. } | Peer::Answer { .. } => return Err("no rule sends it".into()),
+    })
+}
+
+/// What a member tells: `send`, who sends, who receives and the term before what it says, or what changed.
+fn told_text(alloc: Global, output: &Output) -> Result<String, Fail> {
+    Ok(match output {
+        Output::Role { role, term } => format!(in alloc; "role {role:?} {term}")?,
+        Output::Commit { index } => format!(in alloc; "commit {index}")?,
+        Output::Send {
+            message: Message::Peer {
+                from,
+                to,
+                term,
+                body,
+            },
+        } => {
+            let said = said_text(alloc, body)?;
+            format!(in alloc; "send {} {} {term} {said}", from.number(), to.number())?
+        }
+        _ => return Err("told by no turn here".into()),
+    })
+}
+
+/// The turn leaves a group of these bytes, none where nothing is recorded, and tells this.
+fn leaves(
+    rt: &impl Abort,
+    alloc: Global,
+    turned: &Turned,
+    group: &str,
+    told: &[&str],
+) -> Result<(), Fail> {
+    if group.is_empty() {
+        assert!(rt; turned.group.is_empty());
+    } else {
+        assert_eq!(rt; turned.group.as_bytes(), bytes_of(alloc, group)?.as_slice());
+    }
+    assert_eq!(rt; turned.outputs.len(), told.len());
+    for (output, want) in turned.outputs.iter().zip(told) {
+        assert_eq!(rt; told_text(alloc, output)?.as_str(), *want);
+    }
     Ok(())
 }
 
-/// The output says that the member is a candidate in term 1.
-fn tells_candidacy(rt: &impl Abort, output: &Output) -> Result<(), Fail> {
-    let Output::Role { role, term } = output else {
-        return Err("no role is told".into());
-    };
-    assert_eq!(rt; (*role, *term), (Role::Candidate, 1));
-    Ok(())
+// ---- turns
+
+/// Member 0, which has stood for election after three quiet ticks.
+fn stood(rt: &impl Abort, alloc: Global) -> Result<Core, Fail> {
+    let mut core = started(alloc, 0)?;
+    for _ in 1..=2 {
+        let (next, turned) = core.turn(&Event::Tick { word: 0 })?;
+        core = next;
+        leaves(rt, alloc, &turned, "", &[])?;
+    }
+    let (core, turned) = core.turn(&Event::Tick { word: 0 })?;
+    // the length of the records, term 1 with a vote for member 0, and the next gate
+    leaves(
+        rt,
+        alloc,
+        &turned,
+        "000000000000000a 01 0000000000000001 00 00",
+        &[
+            "role Candidate 1",
+            "send 0 1 1 vote 0 0",
+            "send 0 2 1 vote 0 0",
+        ],
+    )?;
+    Ok(core)
 }
 
 #[test]
 fn three_quiet_ticks_start_an_election(rt: HostRuntime) -> Result<(), Fail> {
-    let alloc = rt.alloc();
-    let mut core = started(alloc, 0)?;
-    for tick in 1..=2 {
-        let (next, turned) = core.turn(&Event::Tick { word: 0 })?;
-        core = next;
-        assert!(rt; turned.group.is_empty(), "tick {tick}");
-        assert_eq!(rt; turned.outputs.len(), 0, "tick {tick}");
-    }
-    let (core, turned) = core.turn(&Event::Tick { word: 0 })?;
+    let core = stood(&rt, rt.alloc())?;
     assert_eq!(rt; core.role(), Role::Candidate);
     assert_eq!(rt; core.store().term(), 1);
     assert_eq!(rt; core.store().vote(), Some(0));
-    // the length of the record, term 1 with a vote for member 0, and the next gate
-    let want = bytes_of(alloc, "000000000000000a 01 0000000000000001 00 00")?;
-    assert_eq!(rt; turned.group.as_bytes(), want.as_slice());
-    assert_eq!(rt; turned.outputs.len(), 3);
-    tells_candidacy(&rt, &turned.outputs[0])?;
-    asks(&rt, &turned.outputs[1], 1)?;
-    asks(&rt, &turned.outputs[2], 2)
+    Ok(())
+}
+
+/// By hand, behind a head of F = 1, k = 1 and the kind, the sender and the receiver: term, granted.
+const VOTED: &str = "4352010101 02 01 00 0000000000000001 01";
+
+/// Term, yes, prev, count, mask.
+const MATCHED: &str = "4352010101 04 01 00 0000000000000001 01 0000000000000000 01 01";
+
+/// Term, prev, its term, commit, count, an empty entry.
+const FIRST_APPEND: &str =
+    "4352010101 03 00 01 0000000000000001 0000000000000000 0000000000000000 0000000000000000 01
+    01 00 0000000000000001 0000000000000000 0000000000000000 00";
+
+/// The same fields, without an entry.
+const SECOND_APPEND: &str =
+    "4352010101 03 00 01 0000000000000001 0000000000000001 0000000000000001 0000000000000001 00";
+
+/// The group of a commit index of 1.
+const COMMITTED: &str = "0000000000000009 05 0000000000000001 00";
+
+#[test]
+fn a_leader_commits_its_empty_entry(rt: HostRuntime) -> Result<(), Fail> {
+    let alloc = rt.alloc();
+    let core = stood(&rt, alloc)?;
+    let (core, turned) = take(core, &bytes_of(alloc, VOTED)?)?;
+    leaves(
+        &rt,
+        alloc,
+        &turned,
+        "000000000000001c 02 01 00 0000000000000001 0000000000000000 0000000000000000 00 00",
+        &[
+            "role Leader 1",
+            "send 0 1 1 append 0 0 0 w",
+            "send 0 2 1 append 0 0 0 w",
+        ],
+    )?;
+    let (core, turned) = take(core, &bytes_of(alloc, MATCHED)?)?;
+    leaves(&rt, alloc, &turned, COMMITTED, &["commit 1"])?;
+    // what it hears again changes nothing
+    let (core, turned) = take(core, &bytes_of(alloc, MATCHED)?)?;
+    leaves(&rt, alloc, &turned, "", &[])?;
+    assert_eq!(rt; core.role(), Role::Leader);
+    Ok(())
+}
+
+#[test]
+fn a_follower_takes_an_append_and_answers(rt: HostRuntime) -> Result<(), Fail> {
+    let alloc = rt.alloc();
+    let core = started(alloc, 1)?;
+    let (core, turned) = take(core, &bytes_of(alloc, FIRST_APPEND)?)?;
+    // term 1 without a vote, and the entry
+    leaves(
+        &rt,
+        alloc,
+        &turned,
+        "0000000000000026 01 0000000000000001 ff
+        02 01 00 0000000000000001 0000000000000000 0000000000000000 00 00",
+        &["role Follower 1", "send 1 0 1 matched 0 1 1"],
+    )?;
+    let (core, turned) = take(core, &bytes_of(alloc, SECOND_APPEND)?)?;
+    leaves(
+        &rt,
+        alloc,
+        &turned,
+        COMMITTED,
+        &["commit 1", "send 1 0 1 matched 1 0 0"],
+    )?;
+    assert_eq!(rt; core.role(), Role::Follower);
+    Ok(())
 }

@@ -1,35 +1,34 @@
 //! The turn: the rule that an event calls for, and what the member tells of it.
-ghost use Rattle.std.specs.Prelude.{◌≡◌, ◌≢◌, ◌≤◌, ◌<◌, ◌++◌, IfOk, map};
-ghost use Rattle.std.specs.Option.{option_to_list};
-ghost use Rattle.craft_base.specs.Shape.{members_of};
+ghost use Rattle.std.specs.Prelude.{◌≡◌, IfOk};
+ghost use Rattle.craft_base.specs.Shape.{IsShape};
 ghost use Rattle.entry_frames.specs.Kinds.{kind_of};
+ghost use Rattle.entry_frames.specs.MessageParts.{body_of, receiver_byte, sender_byte};
 ghost use Rattle.entry_frames.specs.declared.kind.Kind.TheVariants.{Peer};
-ghost use Rattle.entry_frames.specs.Limits.{greatest};
-ghost use Rattle.entry_frames.specs.MessageParts.{IsPeer, body_of, sender_byte, term_of};
-ghost use Rattle.entry_frames.specs.declared.output.Output.TheVariants.{Send};
+ghost use Rattle.entry_frames.specs.declared.kind.PeerKind.TheVariants as peer_kinds;
+ghost use Rattle.world_model.specs.Ranges.{EventInRange, HasSpelling};
+ghost use Rattle.world_model.specs.Turn as turns;
 
 use crate::act::Act;
 use crate::event::Event;
-use crate::member::Core;
+use crate::running::Core;
+use crate::telling::{Before, Changes, tell};
 use craft_base::OutOfMemory;
-use entry_frames::{Group, Kind, PeerKind};
-use peer_frames::{Message, MessageView, Output, Role};
-use std::alloc::Global;
+use entry_frames::{Group, Kind, LogView, PeerKind};
+use peer_frames::{MessageView, Output};
 
 /// What is left of a turn.
 #[derive(Drop)]
 pub struct Turned {
     /// The records, which have to be in the journal before anything is told; none where nothing changed that outlives a crash.
     pub group: Group,
-    /// What is told, in its order: the role, and then what is sent.
+    /// What is told, in its order: what changed, and then what is sent.
     pub outputs: Vec<Output>,
 }
 
 impl Core {
-    ghost use Rattle.node_core.specs.Stands.{Acts, Stands};
-    ghost use Rattle.node_core.specs.Turns.{IsFor, TurnedTo, change_of, event_of, frame_of};
+    ghost use Rattle.node_core.specs.Stands.{Stands};
+    ghost use Rattle.node_core.specs.Turns.{IsFor, TurnedTo, event_of};
     ghost use Rattle.world_model.specs.Nodes.{Node};
-    ghost use Rattle.world_model.specs.Turn as turns;
 
     /// Carries out the rule that the event calls for. A frame has to be of another member of this cluster to this one. The only
     /// error is want of memory; the member is then gone.
@@ -39,101 +38,89 @@ impl Core {
         // And there is a node that it stands for, so that this speaks of something.
         ensures stands { IfOk result (λ x. (n : Node) × Stands self n) }
     {
-        let mut core = self;
-        core.shape.law();
-        let role = core.role;
-        let term = core.store.term();
-        let act = Act::new(core.alloc)?;
-        let act = core.act(event, act)?;
-        let outputs = tell(core.alloc, core.change_since(role, term), act.sends)?;
+        self.member.shape.law();
+        let before = Before::of(&self.member);
+        let act = Act::new(self.member)?;
+        let act = act.respond(event)?;
+        let changes = Changes {
+            role: before.role_change(&act.member),
+            cuts: act.cuts,
+            prepares: before.prepares(&act.member),
+            wholes: act.wholes,
+            commit: before.commit_change(&act.member),
+        };
+        let outputs = tell(act.member.alloc, changes, act.sends)?;
         let group = act.group.close()?;
-        Ok((core, Turned { group, outputs }))
+        Ok((Core { member: act.member }, Turned { group, outputs }))
     }
+}
+
+impl Act {
+    ghost use Rattle.node_core.specs.Acting.{Acts, IsCurrent, IsRangedMember};
+    ghost use Rattle.node_core.specs.Turns.{IsReadIn, event_of};
 
     /// Carries out the rule that the event calls for.
-    fn act(&mut self, event: &Event<'_>, act: Act) -> Result<Act, OutOfMemory>
-        requires { IsFor self.old event.now }
-        ensures { IfOk result (Acts (turns.act_of (event_of event.now)) self.old self.new act) }
+    fn respond(self, event: &Event<'_>) -> Result<Act, OutOfMemory>
+        requires is_shape { IsShape self.member.store.shape }
+        requires told { EventInRange self.member.store.shape self.member.me (event_of event.now) }
+        requires read { IsReadIn self.member.store.shape event.now }
+        requires ranged { IsRangedMember self.member }
+        ensures { IfOk result (Acts (turns.act_of (event_of event.now)) self) }
     {
         match event {
-            Event::Tick { word } => self.tick(*word, act),
-            Event::Frame(view) => self.take(view, act),
-            Event::Call { .. } => Ok(act),
+            Event::Tick { word } => self.tick(*word),
+            Event::Frame(view) => self.take(view),
+            Event::Call { .. } => Ok(self),
         }
     }
 
     /// Takes a message of another member, by its term and then by what it says.
-    fn take(&mut self, view: &MessageView<'_>, act: Act) -> Result<Act, OutOfMemory>
-        requires { IsFor self.old (frame_of view.now) }
-        ensures { IfOk result (Acts (turns.act_of_message view.now.frame) self.old self.new act) }
+    fn take(self, view: &MessageView<'_>) -> Result<Act, OutOfMemory>
+        requires is_shape { IsShape self.member.store.shape }
+        requires spelled { HasSpelling self.member.store.shape view.now.frame }
+        requires receiver { receiver_byte view.now.frame ≡ self.member.me }
+        requires read { view.now.shape ≡ self.member.store.shape }
+        requires ranged { IsRangedMember self.member }
+        ensures { IfOk result (Acts (turns.act_of_message view.now.frame) self) }
     {
         let Kind::Peer(kind) = view.message_kind() else {
-            return Ok(act);
+            return Ok(self);
         };
-        self.shape.law();
-        if view.term() < self.store.term() {
-            let refused = self.refuse_stale(view.from(), kind, act)?;
-            return Ok(refused);
+        if view.term() < self.member.store.term() {
+            return self.refuse_stale(view.from(), kind);
         }
-        let act = self.catch_up(view.term(), act)?;
-        let act = self.take_said(view, kind, act)?;
-        Ok(act)
+        let act = self.catch_up(view.term())?;
+        act.take_said(view, kind)
     }
 
     /// Takes a message of its own term, by what it says.
-    fn take_said(
-        &mut self,
-        view: &MessageView<'_>,
-        kind: PeerKind,
-        act: Act,
-    ) -> Result<Act, OutOfMemory>
-        requires peer { IsPeer view.now.frame }
+    fn take_said(self, view: &MessageView<'_>, kind: PeerKind) -> Result<Act, OutOfMemory>
+        requires is_shape { IsShape self.member.store.shape }
         requires kind { kind_of view.now.frame ≡ Peer kind }
-        requires sender { sender_byte view.now.frame < members_of self.old.shape }
-        ensures { IfOk result (Acts (λ n. turns.act_of_peer n (sender_byte view.now.frame) (body_of view.now.frame)) self.old self.new act) }
+        requires current { IsCurrent self.member view.now }
+        requires ranged { IsRangedMember self.member }
+        ensures { IfOk result (Acts (λ n. turns.act_of_peer n (sender_byte view.now.frame) (body_of view.now.frame)) self) }
     {
         match kind {
-            PeerKind::Vote => {
-                let act = self.consider_vote(view.from(), view.last_term(), view.last(), act)?;
-                Ok(act)
-            }
-            PeerKind::VoteReply => {
-                self.count_reply(view.from(), view.granted());
-                Ok(act)
-            }
-            PeerKind::Append | PeerKind::AppendReply | PeerKind::Ask | PeerKind::Answer => Ok(act),
+            PeerKind::Vote => self.consider_vote(view.from(), view.last_term(), view.last()),
+            PeerKind::VoteReply => self.count_reply(view.from(), view.granted()),
+            PeerKind::Append => self.take_entries(view),
+            PeerKind::AppendReply => self.take_reply(view),
+            PeerKind::Ask | PeerKind::Answer => Ok(self),
         }
     }
 
-    /// Its role and term, where one of them isn't this.
-    fn change_since(&self, role: Role, term: u64) -> Option<Output>
-        ensures { result ≡ change_of role term self.now.role self.now.durable.term }
+    /// Takes what a member says of its log.
+    fn take_reply(self, view: &MessageView<'_>) -> Result<Act, OutOfMemory>
+        requires kind { kind_of view.now.frame ≡ Peer peer_kinds.AppendReply }
+        requires spelled { HasSpelling self.member.store.shape view.now.frame }
+        requires ranged { IsRangedMember self.member }
+        ensures { IfOk result (Acts (λ n. turns.act_of_peer n (sender_byte view.now.frame) (body_of view.now.frame)) self) }
     {
-        let now = self.store.term();
-        if role == self.role && term == now {
-            return None;
+        if view.is_matched() {
+            self.take_match(view.from(), view.prev(), view.count(), view.mask())
+        } else {
+            self.take_refusal(view.from(), view.next())
         }
-        Some(Output::Role {
-            role: self.role,
-            term: now,
-        })
     }
-}
-
-/// What a member tells: the change of its role, and then what it sends.
-fn tell(
-    alloc: Global,
-    change: Option<Output>,
-    sends: Vec<Message>,
-) -> Result<Vec<Output>, OutOfMemory>
-    ensures { IfOk result (λ outputs. outputs.items ≡ option_to_list change ++ map Send sends.items) }
-{
-    let mut outputs = Vec::new(alloc);
-    if let Some(change) = change {
-        outputs.push(change)?;
-    }
-    for message in sends {
-        outputs.push(Output::Send { message })?;
-    }
-    Ok(outputs)
 }

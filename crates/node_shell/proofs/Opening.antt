@@ -1,5 +1,5 @@
 -- What opening leaves: a file that opens as before, and a member that keeps the state to which it opened.
-use Rattle.std.proofs.Common.{◌≡◌, inl, inr, ⊎_elim, ℕ, Bool, List, sym, subst, arith}
+use Rattle.std.proofs.Common.{◌≡◌, inl, inr, ⊎_elim, ℕ, Bool, List, ap, ◌∙◌, sym, subst, arith}
 use Rattle.std.specs.Prelude.{None, Some, Option, IfSome, is_some}
 use Rattle.craft_base.specs.Shape.{Shape}
 use Rattle.craft_edge.specs.Disk.{OnlySeen}
@@ -18,6 +18,7 @@ use Rattle.synced_log.specs.Crashes.{BeginsWithSync}
 use Rattle.synced_log.specs.Journal.{IsJournal, IsOpened, Kept, StaysAs, owned}
 use Rattle.synced_log.specs.Standing.{FaultsAs, Opens, Stays}
 use Rattle.synced_log.specs.States.{HoldsTo, OpensTo}
+use Rattle.world_model.specs.Nodes.{Node}
 use Rattle.synced_log.proofs.States.{OpenedTo, holds_opens, one_state, opened_to, stays_open}
 use Rattle.synced_log.proofs.Watching.{leaves_less}
 
@@ -46,6 +47,12 @@ pub all_open : (seen : Option (List ℕ)) (may_leave : List ℕ → Type 0) (gat
 all_open None may_leave gate core kept only = tt
 all_open (Some file) may_leave gate core kept only = λ image left.
     subst (λ (l : List ℕ). OpensTo l (owner_of core) core.durable) (sym (only image left)) (holds_opens file gate (owner_of core) core.durable kept)
+
+-- ---- the owner
+
+-- a member's journal is that of the node for which it stands
+pub same_owned : (core : stands.Kept) (n : Node) → stands.Stands core n → owner_of core ≡ owned n.shape n.me
+same_owned core n is = ap (λ (s : Shape). owned s core.me) is.of_shape ∙ ap (λ (m : ℕ). owned n.shape m) is.of_me
 
 -- ---- the state
 

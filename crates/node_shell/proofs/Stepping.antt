@@ -1,6 +1,7 @@
 -- What a step leaves: the journal of the state after the turn, or a crash in the middle that opens to the one before or after it.
-use Rattle.std.proofs.Common.{◌≡◌, ◌≢◌, inl, inr, ⊎_elim, ℕ, Bool, List, [], ◌∷◌, refl, sym, ap, ◌∙◌, subst}
+use Rattle.std.proofs.Common.{◌≡◌, ◌≢◌, inl, inr, ⊎_elim, ℕ, Bool, List, [], ◌∷◌, true, false, refl, sym, ap, ◌∙◌, subst}
 use Rattle.std.specs.Prelude.{None, Some, Option, IsTrue, is_some}
+use Rattle.std.proofs.lemmas.Bool.{false≢true}
 use Rattle.craft_base.specs.Shape.{Shape}
 use Rattle.craft_edge.specs.Disk.{OnlySeen, WhereTold}
 use Rattle.craft_edge.specs.DiskCalls.{DiskHistory}
@@ -10,7 +11,8 @@ use Rattle.node_core.specs.declared.turn.Turned.{Turned}
 use Rattle.node_core.specs.Stands.{Kept, Stands}
 use Rattle.node_core.specs.Turns.{TurnedTo}
 use Rattle.node_shell.specs.Standing.{AllOpenTo, HasNode, IsKept, IsUpheld, owner_of}
-use Rattle.node_shell.specs.Stepping.{BeforeOrAfter, MakesStep, OpensToEither, StopsStep, body_of_turn, step_calls}
+use Rattle.node_shell.specs.declared.outputs.Outputs.{Outputs}
+use Rattle.node_shell.specs.Stepping.{BeforeOrAfter, MakesStep, OpensToEither, StepsTo, StopsStep, body_of_turn, step_calls}
 use Rattle.node_shell.proofs.Opening.{all_open}
 use Rattle.synced_log.specs.Calls.{after_calls}
 use Rattle.synced_log.specs.declared.owner.Owner.{Owner}
@@ -28,13 +30,13 @@ module _ (core : Kept) (n : Node) (event : turns.Event) (new : Kept) (left : Tur
   records = (turns.turn event n).records
 
   kept_is : core.durable ≡ n.durable
-  kept_is = ap (λ (c : Kept). c.durable) is
+  kept_is = is.of_durable
 
   node_after : after core.durable records ≡ (turns.turn event n).node.durable
   node_after = ap (λ (d : Durable). after d records) kept_is ∙ every_turn_is_recorded event n
 
   new_after : new.durable ≡ after core.durable records
-  new_after = ap (λ (c : Kept). c.durable) turned.node ∙ sym node_after
+  new_after = turned.node.of_durable ∙ sym node_after
 
   pub same_owner : owner_of new ≡ owner_of core
   same_owner = ap (λ (s : Shape). owned s new.me) turned.same.0 ∙ ap (λ (m : ℕ). owned core.shape m) turned.same.1
@@ -72,7 +74,20 @@ module _ (core : Kept) (n : Node) (event : turns.Event) (new : Kept) (left : Tur
       ⊎_elim (λ o. inl (subst (OpensTo image (owner_of core)) kept_is o)) (λ o. inr (subst (OpensTo image (owner_of core)) node_after o))
       (opens_either file gate (owner_of core) core.durable kept left.group records turned.records (is_group some) image added)
 
--- ---- the calls
+-- ---- the outputs and the calls
+
+-- a group that isn't empty has bytes
+pub some_bytes : (is_empty : Bool) (group : List ℕ) → is_empty ≡ false → (group ≡ [] → is_empty ≡ true) → group ≢ []
+some_bytes is_empty group false_now empty none = false≢true (sym false_now ∙ empty none)
+
+pub steps : (core : Kept) (n : Node) (event : turns.Event) (new : Kept) (left : Turned) (told : Outputs) → told.list ≡ left.outputs → TurnedTo core n event new left → StepsTo core n event new told
+steps core n event new left told same turned = record { node = turned.node; outputs = ap (λ v. v.items) same ∙ turned.outputs; spelled = turned.spelled }
+
+pub no_calls : (core : Kept) (n : Node) (event : turns.Event) (new : Kept) (left : Turned) (history : Option DiskHistory) (gate : ℕ) → TurnedTo core n event new left → left.group ≡ []
+    → history ≡ after_calls history (step_calls gate (body_of_turn core event n))
+no_calls core n event new left history gate turned none =
+    let body : body_of_turn core event n ≡ [] = sym turned.records ∙ none in
+    sym (ap (λ (l : List ℕ). after_calls history (step_calls gate l)) body)
 
 pub calls_some : (gate : ℕ) (body : List ℕ) → body ≢ [] → append_calls gate body ≡ step_calls gate body
 calls_some gate [] some = absurd (some refl)
@@ -134,5 +149,5 @@ pub opens_to_first : (seen : Option (List ℕ)) (may_leave : List ℕ → Type 0
     → (image : List ℕ) → may_leave image → BeforeOrAfter seen core event image
 opens_to_first None may_leave gate core event kept only image left = λ n is. tt
 opens_to_first (Some file) may_leave gate core event kept only image left = λ n is.
-    inl (subst (OpensTo image (owner_of core)) (ap (λ (c : Kept). c.durable) is)
+    inl (subst (OpensTo image (owner_of core)) is.of_durable
     (subst (λ (l : List ℕ). OpensTo l (owner_of core) core.durable) (sym (only image left)) (holds_opens file gate (owner_of core) core.durable kept)))

@@ -1,5 +1,6 @@
 -- What is asked of a member, done in its place.
-use Rattle.std.proofs.Common.{◌≡◌, ℕ, List, [], Some, get_or, slice_get, slice_set, refl, ap, ◌∙◌, sym, subst}
+use Rattle.std.specs.Prelude.{if◌then◌else◌}
+use Rattle.std.proofs.Common.{◌≡◌, ℕ, Bool, true, false, List, [], Some, get_or, slice_get, slice_set, refl, ap, ◌∙◌, sym, subst}
 use Rattle.craft_base.specs.Shape.{Shape}
 use Rattle.entry_frames.specs.Durable.{Durable}
 use Rattle.entry_frames.specs.declared.message.Message.{Message}
@@ -18,8 +19,10 @@ use Rattle.schedule_replay.specs.Actions.{IsDone, act_of}
 use Rattle.schedule_replay.specs.declared.happened.Happened.{Happened}
 use Rattle.schedule_replay.specs.declared.lines.Action.{Action}
 use Rattle.schedule_replay.specs.declared.lines.Action.TheVariants as actions
+use Rattle.schedule_replay.specs.declared.seat.Resting.{Resting}
 use Rattle.schedule_replay.specs.declared.seat.Seat.{Seat}
-use Rattle.schedule_replay.specs.Seats.{AreSeats, Sits, running_with}
+use Rattle.schedule_replay.specs.declared.seat.Seat.TheVariants.{Down}
+use Rattle.schedule_replay.specs.Seats.{AreSeats, Rests, Sits, running_with}
 use Rattle.schedule_replay.specs.Told.{TellsOf}
 use Rattle.schedule_replay.proofs.Seating.{seated, stays_put}
 
@@ -77,6 +80,19 @@ turned_done shape me seat told w d t sits verdict member outputs shown = record 
   sits = sits;
   tells = record { verdict = verdict; member = member; outputs = outputs; shown = shown };
 }
+
+-- its machine stops in its turn
+pub stopped_done :
+    (shape : Shape) (me : ℕ) (resting : Resting) (told : Happened) (w : model.World) (d : Durable) (t : turns.Turned) (test : Bool) →
+    Rests shape me resting (if test then t.node.durable else d) → IsSilent told verdicts.Stop me → IsDone shape me (Down resting) told w (model.stopped test w me d t)
+stopped_done shape me resting told w d t true rests s =
+    record {
+      next = model.down_with t.node.durable;
+      members = refl;
+      sits = (refl, rests);
+      tells = record { verdict = s.verdict_is; member = s.member_is; outputs = s.no_outputs; shown = s.none_shown };
+    }
+stopped_done shape me resting told w d t false rests s = becomes_done shape me (Down resting) told w verdicts.Stop (model.down_with d) (refl, rests) s
 
 -- ---- in the member's place
 

@@ -3,7 +3,7 @@ use Rattle.std.proofs.Common.{◌≡◌, ℕ, ◌+◌, List, [], ◌∷◌, ◌+
 use Rattle.std.specs.Prelude.{IfSome}
 use Rattle.std.specs.Io.KnownBytes.{Appends}
 use Rattle.std.proofs.KnownBytes.{Appends-nil, Appends-trans}
-use Rattle.bridge.proofs.Leaders.{one_leader_a_term}
+use Rattle.bridge.proofs.Safe.{every_run_is_safe}
 use Rattle.craft_base.specs.Shape.{Shape, IsShape}
 use Rattle.craft_edge.specs.Streams.{WhereBothTold}
 use Rattle.craft_edge.proofs.StreamLemmas.{told_if, told_same, told_trans}
@@ -72,7 +72,7 @@ module _ (shape : Shape) (number : ℕ) (world : Kept) (left mid taken all : Opt
       record {
         first_bad = ap (λ r. r.bad) read;
         text = subst (λ es. Appends taken all (lines_of_run shape es)) (sym (ap (λ r. r.events) read ∙ append-nil p.events)) p.text;
-        one_leader = one_leader_a_term shape (reading shape bytes).events (record { of_shape = is; in_range = reading_in_range shape bytes });
+        safe = every_run_is_safe shape (reading shape bytes).events (record { of_shape = is; in_range = reading_in_range shape bytes });
       }
 
   -- the world stands for all that was read

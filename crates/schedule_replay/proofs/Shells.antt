@@ -8,11 +8,12 @@ use Rattle.crash_disk.specs.MemDisk.{DiskInMemory, IsAsTold, made_disk}
 use Rattle.crash_disk.specs.Stopped.{IsToldToStop}
 use Rattle.crash_disk.specs.Told.{MayLeave}
 use Rattle.entry_frames.specs.Durable.{Durable, born, after}
-use Rattle.node_core.specs.Stands.{Stands, kept_node}
+use Rattle.node_core.specs.Stands.{Stands}
 use Rattle.entry_frames.specs.Records.{Record}
-use Rattle.node_core.proofs.Ranging.{none_spelled}
+use Rattle.node_core.proofs.Turning.{none_spelled}
 use Rattle.node_shell.specs.Standing.{Standing, owner_of}
 use Rattle.node_shell.specs.Stepping.{body_of_turn, step_calls}
+use Rattle.node_shell.proofs.Opening.{same_owned}
 use Rattle.node_shell.proofs.Stepping.{calls_some}
 use Rattle.synced_log.specs.Calls.{after_calls}
 use Rattle.synced_log.specs.declared.owner.Owner.{Owner}
@@ -38,13 +39,13 @@ still_steady old new steady kept = record {
 
 -- a member that has started over what its disk held
 pub started_runs :
-    (shape : Shape) (me : ℕ) (disk : DiskInMemory) (shell : Standing DiskInMemory) (d : Durable) → HasState shape me disk d → shell.core ≡ kept_node (started shape me shell.core.durable) →
+    (shape : Shape) (me : ℕ) (disk : DiskInMemory) (shell : Standing DiskInMemory) (d : Durable) → HasState shape me disk d → Stands shell.core (started shape me shell.core.durable) →
     d ≡ shell.core.durable → HoldsTo shell.disk.told.now.bytes shell.gate (owner_of shell.core) shell.core.durable → KeepsOrders disk.told.history shell.disk.told.history → Runs shape me shell d fresh
 started_runs shape me disk shell d has core only holds orders = record {
-  core = core ∙ ap (λ e. kept_node (started shape me e)) (sym only);
+  core = subst (λ e. Stands shell.core (started shape me e)) (sym only) core;
   steady = still_steady disk shell.disk has.steady orders;
   holds = subst (λ e. HoldsTo shell.disk.told.now.bytes shell.gate (owned shape me) e) (sym only)
-      (subst (λ o. HoldsTo shell.disk.told.now.bytes shell.gate o shell.core.durable) (ap (λ k. owner_of k) core) holds);
+      (subst (λ o. HoldsTo shell.disk.told.now.bytes shell.gate o shell.core.durable) (same_owned shell.core (started shape me shell.core.durable) core) holds);
 }
 
 -- a disk that was never written opens to the state before any record
@@ -63,14 +64,14 @@ pub turned_runs :
     (shape : Shape) (me : ℕ) (old new : Standing DiskInMemory) (d : Durable) (v : Volatile) (n : Node) → Runs shape me old d v → Stands new.core n → new.core.shape ≡ old.core.shape →
     new.core.me ≡ old.core.me → KeepsOrders old.disk.told.history new.disk.told.history → HoldsTo new.disk.told.now.bytes new.gate (owner_of new.core) new.core.durable → Runs shape me new n.durable n.volatile
 turned_runs shape me old new d v n runs stands same_shape same_me orders holds =
-    let is_shape : new.core.shape ≡ shape = same_shape ∙ ap (λ k. k.shape) runs.core in
-    let is_me : new.core.me ≡ me = same_me ∙ ap (λ k. k.me) runs.core in
-    let its_shape : n.shape ≡ shape = sym (ap (λ k. k.shape) stands) ∙ is_shape in
-    let its_me : n.me ≡ me = sym (ap (λ k. k.me) stands) ∙ is_me in
+    let is_shape : new.core.shape ≡ shape = same_shape ∙ runs.core.of_shape in
+    let is_me : new.core.me ≡ me = same_me ∙ runs.core.of_me in
+    let its_shape : n.shape ≡ shape = sym stands.of_shape ∙ is_shape in
+    let its_me : n.me ≡ me = sym stands.of_me ∙ is_me in
     let owner : owner_of new.core ≡ owned shape me = ap (λ s. owned s new.core.me) is_shape ∙ ap (λ i. owned shape i) is_me in record {
-      core = stands ∙ ap kept_node (node_again shape me n its_shape its_me);
+      core = subst (Stands new.core) (node_again shape me n its_shape its_me) stands;
       steady = still_steady old.disk new.disk runs.steady orders;
-      holds = subst (λ e. HoldsTo new.disk.told.now.bytes new.gate (owned shape me) e) (ap (λ k. k.durable) stands)
+      holds = subst (λ e. HoldsTo new.disk.told.now.bytes new.gate (owned shape me) e) stands.of_durable
           (subst (λ o. HoldsTo new.disk.told.now.bytes new.gate o new.core.durable) owner holds);
     }
 
@@ -151,7 +152,7 @@ module _ (shape : Shape) (me : ℕ) (d : Durable) (v : Volatile) (event : turns.
     (same_core : stopped.core ≡ old.core) (same_gate : stopped.gate ≡ old.gate) (same_seen : Some stopped.disk.told.now.bytes ≡ Some old.disk.told.now.bytes)
     (history : Some stopped.disk.told.history ≡ after_stop_of (Some old.disk.told.history) call keep) where
   pub stopped_stands : Stands stopped.core (node_with shape me d v)
-  stopped_stands = same_core ∙ runs.core
+  stopped_stands = subst (λ k. Stands k (node_with shape me d v)) (sym same_core) runs.core
 
   bytes_are : stopped.disk.told.now.bytes ≡ old.disk.told.now.bytes
   bytes_are = cc (same_seen)
@@ -161,7 +162,7 @@ module _ (shape : Shape) (me : ℕ) (d : Durable) (v : Volatile) (event : turns.
       subst (λ bytes. HoldsTo bytes stopped.gate (owned shape me) d) (sym bytes_are) (subst (λ gate. HoldsTo old.disk.told.now.bytes gate (owned shape me) d) (sym same_gate) runs.holds)
 
   need_is : stopped.core.shape.need ≡ shape.need
-  need_is = ap (λ k. k.shape.need) stopped_stands
+  need_is = ap (λ (s : Shape). s.need) stopped_stands.of_shape
 
   left_so :
       (disk : DiskInMemory) → HasQuiet shape me d (turn_of shape me d v event) disk
@@ -184,11 +185,11 @@ module _ (shape : Shape) (me : ℕ) (d : Durable) (v : Volatile) (event : turns.
       ⊎ (HasMade (append_calls stopped.gate (body_of shape.need (turn_of shape me d v event).records)) stopped.disk new.disk
       ⊎ HasFailed shape me d (turn_of shape me d v event) stopped.gate stopped.disk new.disk)
   made_so new [] are stands opens calls =
-      let same : new.core.durable ≡ d = ap (λ k. k.durable) stands ∙ sym (every_turn_is_recorded event (node_with shape me d v)) ∙ ap (after d) are in
+      let same : new.core.durable ≡ d = stands.of_durable ∙ sym (every_turn_is_recorded event (node_with shape me d v)) ∙ ap (after d) are in
       inl (record {
         none = are;
         opens = λ image left. subst (λ e. OpensTo image (owned shape me) e) same
-            (subst (λ o. OpensTo image o new.core.durable) (ap (λ k. owner_of k) stopped_stands) (opens image left));
+            (subst (λ o. OpensTo image o new.core.durable) (same_owned stopped.core (node_with shape me d v) stopped_stands) (opens image left));
       })
   made_so new (r ∷ records) are stands opens calls =
       let body = body_of_turn stopped.core event (node_with shape me d v) in
@@ -211,6 +212,8 @@ module _ (shape : Shape) (me : ℕ) (d : Durable) (v : Volatile) (event : turns.
       StopsInMemory stopped.disk disk stopped.gate (body_of_turn stopped.core event (node_with shape me d v)) → IsLeft shape me d v event call keep disk
   failed_left disk group stops =
       left_so disk (inr (inr (record {
-        group = subst (λ k. IsGroupOf k.shape k.durable (turn_of shape me d v event).records) stopped_stands group;
+        group =
+            subst (λ e. IsGroupOf shape e (turn_of shape me d v event).records) stopped_stands.of_durable
+            (subst (λ (s : Shape). IsGroupOf s stopped.core.durable (turn_of shape me d v event).records) stopped_stands.of_shape group);
         stops = subst (λ k. StopsInMemory stopped.disk disk stopped.gate (body_of k (turn_of shape me d v event).records)) need_is stops;
       })))

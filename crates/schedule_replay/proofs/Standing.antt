@@ -10,7 +10,7 @@ use Rattle.world_model.specs.Tallies.{counted, greatest_commit, is_cut, is_reply
 use Rattle.world_model.specs.World as model
 use Rattle.world_model.specs.declared.line.Line.{Line}
 use Rattle.world_model.specs.declared.tally.Tally.{Tally}
-use Rattle.world_model.proofs.Ranges.Worlds.{start_in_range, step_in_range}
+use Rattle.world_model.proofs.Ranges.Worlds.{counting_in_range, start_in_range, step_in_range}
 use Rattle.world_model.proofs.Runs.{run_from-append, step_sends}
 use Rattle.schedule_replay.specs.declared.seat.Seat.{Seat}
 use Rattle.schedule_replay.specs.Network.{frame_bytes}
@@ -18,6 +18,10 @@ use Rattle.schedule_replay.specs.Seats.{AreSeats}
 use Rattle.schedule_replay.specs.Worlds.{PartsStand, StandsFor}
 use Rattle.schedule_replay.proofs.Seating.{AreNewborn, newborns_sit}
 use Rattle.schedule_replay.proofs.Tallying.{nothing_yet, tally_more}
+
+-- one more event that is counted changes no place and no frame
+pub counting_stands : {shape : Shape} {seats : List Seat} {sent : List (List ℕ)} {w : model.World} → PartsStand shape seats sent w → PartsStand shape seats sent (model.counting w)
+counting_stands parts = record { is_shape = parts.is_shape; in_range = counting_in_range parts.in_range; seats_are = parts.seats_are; sent_are = parts.sent_are }
 
 module _ (shape : Shape) (events : List Line) (line : Line) where
   abbrev w : model.World

@@ -1,7 +1,8 @@
 -- What is asked of a member, as the definitions have it.
 use Rattle.std.specs.Prelude.{◌≡◌, ℕ, ◌≤◌, Option, slice_set}
 use Rattle.craft_base.specs.Shape.{Shape}
-use Rattle.node_core.specs.Turns.{event_of}
+use Rattle.node_core.specs.declared.event.Event.{Event}
+use Rattle.node_core.specs.Turns.{IsReadIn, event_of}
 use Rattle.world_model.specs.Ranges.{EventInRange}
 use Rattle.world_model.specs.World as model
 use Rattle.schedule_replay.specs.declared.happened.Happened.{Happened}
@@ -22,9 +23,13 @@ abbrev pub CanEnd : Ending → Type 0
 CanEnd Done = Unit {0}
 CanEnd (Stop call keep) = (1 ≤ call) × (call ≤ 4)
 
--- a member is told what is for it
+-- a member is told what is for it, and read as of its cluster
+pub record IsToldTo (shape : Shape) (me : ℕ) (event : Event) : Type 0 where
+  pub ranged : EventInRange shape me (event_of event)
+  pub read : IsReadIn shape event
+
 abbrev pub CanAct : Shape → ℕ → Action → Type 0
-CanAct shape me (Turn event ending) = EventInRange shape me (event_of event) × CanEnd ending
+CanAct shape me (Turn event ending) = IsToldTo shape me event × CanEnd ending
 CanAct shape me _ = Unit {0}
 
 abbrev pub act_of : Action → model.World → ℕ → Option model.Member → model.Happened

@@ -5,7 +5,7 @@ use Rattle.craft_base.specs.Shape.{Shape}
 use Rattle.craft_edge.specs.Causes.{Rose}
 use Rattle.craft_edge.specs.Streams.{Streams, WhereBothTold}
 use Rattle.world_model.specs.Lines.{lines_of_run}
-use Rattle.world_model.specs.Safety.{OneLeaderATerm}
+use Rattle.world_model.specs.Safety.{IsSafe}
 use Rattle.world_model.specs.Schedule.{Reading, with_event, reading, reading_from, lines_of}
 use Rattle.world_model.specs.Spelling.{IsLineOf}
 use Rattle.world_model.specs.declared.line.Line.{Line}
@@ -36,11 +36,11 @@ ReadsNone faults_before faults_now NoMemory = Unit {0}
 ReadsNone faults_before faults_now _ = ⊥
 
 -- Of what the bytes say: the first bad line is this one, if there is one; the text of the events before it was written; and
--- no term of their run has two members that ever led it or prepared to.
+-- their run is safe.
 pub record PrintsReading (shape : Shape) (bad : Option ℕ) (bytes : List ℕ) (taken now_taken : Option (List ℕ)) : Type 0 where
   pub first_bad : (reading shape bytes).bad ≡ bad
   pub text : Appends taken now_taken (lines_of_run shape (reading shape bytes).events)
-  pub one_leader : OneLeaderATerm shape (reading shape bytes).events
+  pub safe : IsSafe shape (reading shape bytes).events
 
 -- every line was good, and nothing is left
 abbrev pub PrintsAll : Shape → Streams → Streams → Type 0

@@ -4,10 +4,9 @@ ghost use Rattle.craft_base.specs.Shape.{members_of};
 ghost use Rattle.entry_frames.specs.Durable.{Durable};
 ghost use Rattle.node_core.specs.Turns.{event_of};
 ghost use Rattle.world_model.specs.Nodes.{Volatile};
-ghost use Rattle.world_model.specs.Ranges.{EventInRange};
 ghost use Rattle.world_model.specs.Spelling.{IsLineOf};
 ghost use Rattle.world_model.specs.World as model;
-ghost use Rattle.schedule_replay.specs.Actions.{CanAct, CanEnd, IsDone, act_of, ending_of};
+ghost use Rattle.schedule_replay.specs.Actions.{CanAct, CanEnd, IsDone, IsToldTo, act_of, ending_of};
 ghost use Rattle.schedule_replay.specs.Seats.{AreSeats, Runs, Rests, Sits, running_with, turn_of};
 ghost use Rattle.schedule_replay.specs.Told.{TellsOf};
 ghost use Rattle.schedule_replay.specs.Worlds.{PartsStand};
@@ -196,7 +195,7 @@ fn end_turn(
 ) -> Result<(Seat, Happened), OutOfMemory>
     requires member { me < members_of shape.now }
     requires runs { (d : Durable) × (v : Volatile) × Runs shape.now me shell d v }
-    requires event { EventInRange shape.now me (event_of event.now) }
+    requires event { IsToldTo shape.now me event.now }
     requires ending { CanEnd ending }
     ensures { IfOk result (λ x. (w : model.World) (d : Durable) (v : Volatile) → w.shape ≡ shape.now → slice_get w.members me ≡ Some (running_with d v) →
         Runs shape.now me shell d v → IsDone shape.now me x.0 x.1 w (ending_of ending w me d (turn_of shape.now me d v (event_of event.now)))) }

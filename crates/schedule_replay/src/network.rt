@@ -1,5 +1,5 @@
 //! The network: the messages that members send, in their order, each as its bytes.
-ghost use Rattle.std.specs.Prelude.{◌≡◌, ◌-◌, ◌++◌, ◌∷◌, [], List, All, OnOk, MatchOption, None, Some, map, slice_get};
+ghost use Rattle.std.specs.Prelude.{◌≡◌, ◌-◌, ◌++◌, ◌∷◌, [], List, All, OnOk, IfSome, MatchOption, None, Some, map, slice_get};
 ghost use Rattle.entry_frames.specs.declared.message.Message.{Message};
 ghost use Rattle.world_model.specs.Ranges.{HasSpelling};
 ghost use Rattle.world_model.specs.World.{sent_among};
@@ -49,8 +49,9 @@ fn keep_message(
 /// The message in the frame of that number, if it was sent. Frames are numbered from 1.
 pub fn frame_in<'a>(shape: &Shape, sent: &'a [Blob], number: u64) -> Option<MessageView<'a>>
     requires { All (IsSent shape.now) sent.now }
-    ensures { (ms : List Message) → All (HasSpelling shape.now) ms → sent.now ≡ map (frame_bytes shape.now) ms →
+    ensures sent { (ms : List Message) → All (HasSpelling shape.now) ms → sent.now ≡ map (frame_bytes shape.now) ms →
         MatchOption result (slice_get ms (number - 1) ≡ None) (λ view. slice_get ms (number - 1) ≡ Some view.frame) }
+    ensures read { IfSome result (λ view. view.shape ≡ shape.now) }
 {
     let position = number.saturating_sub(1) as usize;
     let frame = sent.get(position)?;

@@ -65,7 +65,7 @@ fn what_happened_is_counted(rt: HostRuntime) -> Result<(), Fail> {
     assert_eq!(rt; end, ReplayEnd::Bad { line: 7 });
     let want = Tally {
         events: 6,
-        frames: 3,
+        frames: 5,
         replies: 0,
         leaders: 1,
         commit: 0,

@@ -100,7 +100,7 @@ named-command_of name found command is_name is_shape =
     ap (λ n. command_of n found) is_name ∙ ap (λ o. command_of (command_name command) o) is_shape ∙ own_name command
 
 -- what is spelled is read
-pub SpellsCommand-read : (words : List (List ℕ)) (command : Command) → SpellsCommand words command → IsCommand command → plan words ≡ Some command
+SpellsCommand-read : (words : List (List ℕ)) (command : Command) → SpellsCommand words command → IsCommand command → plan words ≡ Some command
 SpellsCommand-read [] command spelled inside = absurd spelled
 SpellsCommand-read (name ∷ []) command spelled inside = absurd spelled
 SpellsCommand-read (name ∷ faults ∷ []) command spelled inside = absurd spelled
@@ -111,7 +111,7 @@ SpellsCommand-read (name ∷ faults ∷ need ∷ []) command (is_name, is_faults
 SpellsCommand-read (name ∷ faults ∷ need ∷ more ∷ words) command spelled inside = absurd spelled
 
 -- what is read is spelled, and in range
-pub read-SpellsCommand : (words : List (List ℕ)) (command : Command) → plan words ≡ Some command → SpellsCommand words command × IsCommand command
+read-SpellsCommand : (words : List (List ℕ)) (command : Command) → plan words ≡ Some command → SpellsCommand words command × IsCommand command
 read-SpellsCommand [] command h = cc
 read-SpellsCommand (name ∷ []) command h = cc
 read-SpellsCommand (name ∷ faults ∷ []) command h = cc

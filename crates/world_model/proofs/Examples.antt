@@ -1,7 +1,8 @@
 -- The definitions at whole examples, worked out by hand.
-use Rattle.std.proofs.Common.{◌≡◌, List, [], ◌∷◌, refl, Some, None, true, false}
+use Rattle.std.proofs.Common.{◌≡◌, List, [], ◌∷◌, ◌++◌, refl, Some, None, true, false}
 use Rattle.std.specs.Prelude.{codes}
 use Rattle.std.specs.Fmt.{digits}
+use Rattle.hex.specs.Hex.{encode_with}
 use Rattle.craft_base.specs.Shape.{Shape}
 use Rattle.world_model.specs.Lines.{lines_of_run}
 use Rattle.world_model.specs.Schedule.{reading}
@@ -22,12 +23,22 @@ election = Do (Tick 0 0) ∷ Do (Tick 0 0) ∷ Do (Tick 0 0) ∷ Do (Take 1) ∷
 
 -- member 0 asks for votes, has one granted, and leads
 election_text : lines_of_run three election ≡
-    codes "1 done\n2 done\n3 done\nrole 0 candidate 1\nsend 1 0 1 vote 1 0 0\nsend 2 0 2 vote 1 0 0\n4 done\nrole 1 follower 1\nsend 3 1 0 voted 1 yes\n5 done\nrole 0 leader 1\n"
+    codes "1 done\n2 done\n3 done\nrole 0 candidate 1\nsend 1 0 1 vote 1 0 0\nsend 2 0 2 vote 1 0 0\n4 done\nrole 1 follower 1\nsend 3 1 0 voted 1 yes\n5 done\nrole 0 leader 1\nsend 4 0 1 append 1 0 0 0 w\nsend 5 0 2 append 1 0 0 0 w\n"
 unfolding digits
 election_text = refl
 
 election_read : reading three (codes "tick 0 0\ntick 0 0\ntick 0 0\ntake 1\ntake 3\n") ≡ record { events = election; bad = None }
 election_read = refl
+
+-- the leader's empty entry is on two of three, so it is committed; the next beat tells who holds it, and sends it again to who is not
+-- known to
+abbrev replication : List Line
+replication = election ++ Do (Take 4) ∷ Do (Take 6) ∷ Do (Tick 0 0) ∷ Do (Take 7) ∷ Do (Take 8) ∷ []
+
+replication_text : lines_of_run three replication ≡
+    codes "1 done\n2 done\n3 done\nrole 0 candidate 1\nsend 1 0 1 vote 1 0 0\nsend 2 0 2 vote 1 0 0\n4 done\nrole 1 follower 1\nsend 3 1 0 voted 1 yes\n5 done\nrole 0 leader 1\nsend 4 0 1 append 1 0 0 0 w\nsend 5 0 2 append 1 0 0 0 w\n6 done\nsend 6 1 0 matched 1 0 1 01\n7 done\ncommit 0 1\n8 done\nsend 7 0 1 append 1 1 1 1 -\nsend 8 0 2 append 1 0 0 1 w\n9 done\ncommit 1 1\nsend 9 1 0 matched 1 1 0 00\n10 done\nrole 2 follower 1\ncommit 2 1\nsend 10 2 0 matched 1 0 1 01\n"
+unfolding digits encode_with
+replication_text = refl
 
 -- a vote that comes twice counts once
 repeated_vote : lines_of_run five

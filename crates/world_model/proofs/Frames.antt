@@ -2,7 +2,7 @@
 use Rattle.std.proofs.Common.{◌≡◌, ◌≢◌, ℕ, ◌-◌, ◌<◌, ◌≤◌, true, ◌==◌, nat_le, refl, sym, subst, arith}
 use Rattle.std.proofs.lemmas.Bool.{and_from, and_parts, le-leb, leb-true, ne_eqb, not_from_false, not-true, eqb-false}
 use Rattle.craft_base.specs.Shape.{Shape, members_of}
-use Rattle.entry_frames.specs.Formats.{Unsigned, U8, U64, Fits, FitsNumber, limit_of, within}
+use Rattle.entry_frames.specs.Formats.{Format, Value, Unsigned, U8, U64, Fits, FitsNumber, limit_of, within}
 use Rattle.entry_frames.specs.Limits.{greatest}
 use Rattle.entry_frames.specs.declared.message.Message.{Message}
 use Rattle.entry_frames.specs.declared.message.Message.TheVariants as messages
@@ -13,7 +13,7 @@ use Rattle.entry_frames.specs.declared.kind.PeerKind.TheVariants as peer_kinds
 use Rattle.entry_frames.specs.Kinds.{kind_byte, kind_with, peer_kind}
 use Rattle.entry_frames.specs.MessageFields.{body_fields, peer_fields, ends_fields}
 use Rattle.entry_frames.specs.MessageParts.{body_of}
-use Rattle.entry_frames.proofs.Formats.{embed_fits}
+use Rattle.entry_frames.proofs.Formats.{embed_fits, embedded_fits}
 use Rattle.world_model.specs.Ranges.{IsMember, IsTerm, HasSpelling}
 use Rattle.craft_base.specs.Shape.{IsShape}
 
@@ -101,3 +101,13 @@ module _ {shape : Shape} (is : IsShape shape) {from to at : ℕ} (body : Peer) w
         apart = eqb-false from to (not-true _ behind.1.1.0);
         term = lies_within U64 1 greatest at behind.1.1.1.0;
       }
+
+-- a spelling says that the body is in range
+pub body_spelled :
+    {shape : Shape} (from to at : ℕ) (body : Peer) → HasSpelling shape (messages.Peer from to at body) → Fits (body_fields shape.need at (peer_kind body)) body
+body_spelled {shape = shape} from to at body spelled =
+    let kind : PeerKind = peer_kind body in
+    let m : Message = messages.Peer from to at body in
+    let make : Peer → Format Message = λ b. Value (messages.Peer from to at b) in
+    let behind : Fits (ends_fields shape (kinds.Peer kind)) m = subst (λ k. Fits (ends_fields shape k) m) (kind_read kind) spelled.1.1.1.1.1.1.1 in
+    (embedded_fits (body_fields shape.need at kind) body_of make m (λ b. refl) behind.1.1.1.1).0

@@ -7,7 +7,7 @@ use Rattle.std.specs.List.{All, slice_split}
 use Rattle.std.specs.Str.{all_ascii_digits, bytes_eq}
 use Rattle.std.proofs.lemmas.Bool.Decides.{nat_tests}
 use Rattle.std.proofs.lemmas.List.Elements.{All-nil, All-cons}
-use Rattle.std.proofs.lemmas.List.Splits.{slice_split_none, slice_split_at, join_with_byte-slice_split}
+use Rattle.std.proofs.lemmas.List.Splits.{slice_split_none, slice_split_at}
 use Rattle.std.proofs.lemmas.Slice.Eq.{bytes_eq-Decides}
 use Rattle.craft_base.specs.Shape.{Shape, members_of}
 use Rattle.world_model.specs.Numbers.{number_of}
@@ -19,7 +19,7 @@ use Rattle.world_model.proofs.Numerals.{numeral_digits}
 use Rattle.world_model.proofs.Spelling.{both_parts, IsNumber-numeral, IsNumber-small, IsNumber-decimal, IsNumber-read, read-IsNumber, decimal-IsNumber}
 
 -- a digit isn't a byte below 0, as a blank and a line feed are
-pub no_digit : (c : ℕ) (bytes : List ℕ) → c < 48 → all_ascii_digits bytes ≡ true → All (λ byte. (byte == c) ≡ false) bytes
+no_digit : (c : ℕ) (bytes : List ℕ) → c < 48 → all_ascii_digits bytes ≡ true → All (λ byte. (byte == c) ≡ false) bytes
 no_digit c [] low digits = All-nil (λ byte. (byte == c) ≡ false)
 no_digit c (byte ∷ bytes) low digits =
     let parts = both_parts (is_ascii_digit byte) (all_ascii_digits bytes) digits in
@@ -137,9 +137,6 @@ inner_by_words shape line (name ∷ []) inner is h = cc
 inner_by_words shape line (name ∷ m ∷ []) inner is h = take_spelled shape line name m inner is h
 inner_by_words shape line (name ∷ i ∷ w ∷ []) inner is h = tick_spelled shape line name i w inner is h
 inner_by_words shape line (name ∷ i ∷ w ∷ more ∷ words) inner is h = cc
-
-pub read-SpellsInner : (shape : Shape) (line : List ℕ) (inner : Inner) → inner_in shape line ≡ Some inner → SpellsInner line inner × IsInnerOf shape inner
-read-SpellsInner shape line inner h = inner_by_words shape line (slice_split is_blank line) inner (join_with_byte-slice_split 32 line) h
 
 -- it has one spelling
 pub one_inner : (line other : List ℕ) (inner : Inner) → SpellsInner line inner → SpellsInner other inner → line ≡ other

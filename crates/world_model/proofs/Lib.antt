@@ -1,6 +1,7 @@
 mod Examples
 mod OutputExamples
 mod CommitExamples
+mod ReplicationExamples
 pub mod Frames
 pub mod Positions
 pub mod Turns
@@ -17,4 +18,3 @@ pub mod ScheduleLines
 pub mod BadLines
 pub mod Readings
 pub mod CommandWords
-pub mod Told

@@ -1,41 +1,34 @@
--- What outlives a crash is what the records of a turn leave: each word of which rules are made keeps it so.
-use Rattle.std.proofs.Common.{◌≡◌, ℕ, ◌++◌, nat_lt, Option, None, Some, Bool, List, [], ◌∷◌, refl, ap, ◌∙◌}
+-- What outlives a crash is what the records of a turn leave, whatever the rule.
+use Rattle.std.proofs.Common.{◌≡◌, ℕ, ◌+◌, ◌++◌, length, min, nat_lt, Option, None, Some, Bool, List, [], ◌∷◌, refl, ap, ◌∙◌}
 use Rattle.std.proofs.lemmas.Bool.{cond_both}
 use Rattle.entry_frames.specs.Durable.{Durable, applied, after}
-use Rattle.entry_frames.specs.Records.{Record}
+use Rattle.craft_base.specs.Knowledge.{Matched}
+use Rattle.craft_base.specs.declared.command.Entry.{Entry}
+use Rattle.entry_frames.specs.Limits.{last_place}
+use Rattle.entry_frames.specs.Records.{Record, Add, Commit}
 use Rattle.entry_frames.specs.declared.message.Message.{Message}
 use Rattle.entry_frames.specs.declared.message.Message.TheVariants as messages
 use Rattle.entry_frames.specs.declared.peer.Peer.{Peer}
 use Rattle.entry_frames.specs.declared.peer.Peer.TheVariants as peers
 use Rattle.entry_frames.specs.declared.role.Role.{Role}
 use Rattle.entry_frames.specs.declared.role.Role.TheVariants.{Follower, Candidate, Preparing, Leader}
-use Rattle.world_model.specs.Nodes.{Node, Volatile, node_hearing}
-use Rattle.world_model.specs.Rules.Acts.{Act, stays, recording, keeping, sending, followed_by, IsRecorded}
+use Rattle.world_model.specs.Nodes.{Node, node_hearing}
+use Rattle.world_model.specs.Rules.Acts.{Act, stays, recording, followed_by, IsRecorded}
+use Rattle.world_model.specs.Rules.Append.{act_of_append_as, act_of_entries, act_of_heard_append, act_of_match, act_of_refusal, act_of_suited, act_of_taking, difference, following, has_before, is_clash}
+use Rattle.world_model.specs.Rules.Applying.{act_of_commit}
+use Rattle.world_model.specs.Rules.Matched.{act_of_matched_as, act_of_next, act_of_progress, act_of_refused_as, commit_of_leader, log_heard}
+use Rattle.world_model.specs.Rules.Prepare.{act_of_leading, act_of_noop, noop}
 use Rattle.world_model.specs.Rules.Terms.{act_of_higher_term, act_of_term, act_of_lower_term}
 use Rattle.world_model.specs.Rules.Tick.{act_of_election, act_of_tick_as, act_of_waiting, is_due, waiting_node}
 use Rattle.world_model.specs.Rules.Vote.{act_of_grant, act_of_vote_from, act_of_vote_refusal, act_of_vote_request, is_grantor}
-use Rattle.world_model.specs.Rules.VoteReply.{act_of_count, act_of_vote_reply_as, has_won, leading_node, vote_heard}
+use Rattle.world_model.specs.Rules.VoteReply.{act_of_count, act_of_vote_reply_as, has_won, vote_heard}
 use Rattle.world_model.specs.Turn.{EveryTurnIsRecorded, Tick, Frame, Call, act_of_message, act_of_peer}
 
 pub after-append : (d : Durable) (records more : List Record) → after d (records ++ more) ≡ after (after d records) more
 after-append d [] more = refl
 after-append d (r ∷ records) more = after-append (applied d r) records more
 
--- ---- the words
-
-pub stays_recorded : (n : Node) → IsRecorded n (stays n)
-stays_recorded n = refl
-
-pub recording_recorded : (n : Node) (r : Record) (act : Act) → IsRecorded n act → IsRecorded n (recording r act)
-recording_recorded n r act is = after-append n.durable act.records (r ∷ []) ∙ ap (λ d. applied d r) is
-
-pub keeping_recorded : (n : Node) (volatile : Volatile) (act : Act) → IsRecorded n act → IsRecorded n (keeping volatile act)
-keeping_recorded n volatile act is = is
-
-pub sending_recorded : (n : Node) (sends : List Message) (act : Act) → IsRecorded n act → IsRecorded n (sending sends act)
-sending_recorded n sends act is = is
-
-pub followed_recorded : (n : Node) (act : Act) (rule : Node → Act) → IsRecorded n act → IsRecorded act.node (rule act.node) → IsRecorded n (followed_by act rule)
+followed_recorded : (n : Node) (act : Act) (rule : Node → Act) → IsRecorded n act → IsRecorded act.node (rule act.node) → IsRecorded n (followed_by act rule)
 followed_recorded n act rule first next =
     after-append n.durable act.records (rule act.node).records ∙ ap (λ d. after d (rule act.node).records) first ∙ next
 
@@ -64,8 +57,62 @@ vote_request_recorded n candidate last_term last =
     cond_both (is_grantor n candidate last_term last) (act_of_grant candidate n) (act_of_vote_refusal candidate n) (IsRecorded n)
     (λ granted. vote_from_recorded n candidate n.durable.vote) (λ refused. refl)
 
+-- the empty entry of a new leader
+noop_recorded : (n : Node) → IsRecorded n (act_of_noop n)
+noop_recorded n =
+    cond_both (nat_lt (length n.durable.log) last_place) (recording (Add (noop n.durable.term)) (stays n)) (stays n) (IsRecorded n) (λ room. refl) (λ full. refl)
+
+leading_recorded : (n : Node) → IsRecorded n (act_of_leading n)
+leading_recorded n = noop_recorded n
+
+pub commit_recorded : (index : ℕ) (n : Node) → IsRecorded n (act_of_commit index n)
+commit_recorded index n = cond_both (nat_lt n.durable.commit index) (recording (Commit index) (stays n)) (stays n) (IsRecorded n) (λ grows. refl) (λ same. refl)
+
+-- entries that are taken, and how far they are committed
+taking_recorded : (leader prev commit : ℕ) (entries : List Entry) (n : Node) → IsRecorded n (act_of_taking leader prev commit entries n)
+taking_recorded leader prev commit entries n =
+    let taken = (act_of_entries prev entries n).node in
+    let rule = λ (now : Node). followed_by (act_of_commit (min commit (prev + length entries)) now) (act_of_match leader prev (length entries)) in
+    followed_recorded n (act_of_entries prev entries n) rule refl
+    (followed_recorded taken (act_of_commit (min commit (prev + length entries)) taken) (act_of_match leader prev (length entries))
+    (commit_recorded (min commit (prev + length entries)) taken) refl)
+
+suited_recorded : (leader prev commit : ℕ) (entries : List Entry) (n : Node) → IsRecorded n (act_of_suited leader prev commit entries n)
+suited_recorded leader prev commit entries n =
+    cond_both (is_clash n.durable.commit (difference prev n.durable.log entries)) (stays n) (act_of_taking leader prev commit entries n) (IsRecorded n)
+    (λ clash. refl) (λ suits. taking_recorded leader prev commit entries n)
+
+heard_append_recorded : (leader prev prev_term commit : ℕ) (entries : List Entry) (n : Node) → IsRecorded n (act_of_heard_append leader prev prev_term commit entries n)
+heard_append_recorded leader prev prev_term commit entries n =
+    cond_both (has_before n.durable.log prev prev_term) (act_of_suited leader prev commit entries n) (act_of_refusal leader n) (IsRecorded n)
+    (λ has. suited_recorded leader prev commit entries n) (λ lacks. refl)
+
+append_as_recorded : (role : Role) (n : Node) (leader prev prev_term commit : ℕ) (entries : List Entry) → IsRecorded n (act_of_append_as role n leader prev prev_term commit entries)
+append_as_recorded Follower n leader prev prev_term commit entries =
+    heard_append_recorded leader prev prev_term commit entries (record n { volatile = following leader n })
+append_as_recorded Candidate n leader prev prev_term commit entries =
+    heard_append_recorded leader prev prev_term commit entries (record n { volatile = following leader n })
+append_as_recorded Preparing n leader prev prev_term commit entries = refl
+append_as_recorded Leader n leader prev prev_term commit entries = refl
+
+progress_recorded : (member : ℕ) (n : Node) → IsRecorded n (act_of_progress member n)
+progress_recorded member n =
+    followed_recorded n (act_of_commit (commit_of_leader n) n) (act_of_next member) (commit_recorded (commit_of_leader n) n) refl
+
+matched_as_recorded : (role : Role) (n : Node) (sender prev count mask : ℕ) → IsRecorded n (act_of_matched_as role n sender prev count mask)
+matched_as_recorded Leader n sender prev count mask = progress_recorded sender (node_hearing (log_heard n sender (Matched prev count mask)) n)
+matched_as_recorded Follower n sender prev count mask = refl
+matched_as_recorded Candidate n sender prev count mask = refl
+matched_as_recorded Preparing n sender prev count mask = refl
+
+refused_as_recorded : (role : Role) (n : Node) (sender next : ℕ) → IsRecorded n (act_of_refused_as role n sender next)
+refused_as_recorded Leader n sender next = refl
+refused_as_recorded Follower n sender next = refl
+refused_as_recorded Candidate n sender next = refl
+refused_as_recorded Preparing n sender next = refl
+
 count_recorded : (n : Node) → IsRecorded n (act_of_count n)
-count_recorded n = cond_both (has_won n) (stays (leading_node n)) (stays n) (IsRecorded n) (λ won. refl) (λ waits. refl)
+count_recorded n = cond_both (has_won n) (act_of_leading n) (stays n) (IsRecorded n) (λ won. leading_recorded n) (λ waits. refl)
 
 vote_reply_as_recorded : (n : Node) (sender : ℕ) (granted : Bool) (role : Role) → IsRecorded n (act_of_vote_reply_as role n sender granted)
 vote_reply_as_recorded n sender granted Follower = refl
@@ -76,9 +123,9 @@ vote_reply_as_recorded n sender granted Leader = refl
 peer_recorded : (n : Node) (sender : ℕ) (body : Peer) → IsRecorded n (act_of_peer n sender body)
 peer_recorded n sender (peers.Vote last_term last) = vote_request_recorded n sender last_term last
 peer_recorded n sender (peers.VoteReply granted) = vote_reply_as_recorded n sender granted n.volatile.role
-peer_recorded n sender (peers.Append prev prev_term commit entries) = refl
-peer_recorded n sender (peers.Matched prev count mask) = refl
-peer_recorded n sender (peers.Refused next) = refl
+peer_recorded n sender (peers.Append prev prev_term commit entries) = append_as_recorded n.volatile.role n sender prev prev_term commit entries
+peer_recorded n sender (peers.Matched prev count mask) = matched_as_recorded n.volatile.role n sender prev count mask
+peer_recorded n sender (peers.Refused next) = refused_as_recorded n.volatile.role n sender next
 peer_recorded n sender (peers.Ask start) = refl
 peer_recorded n sender (peers.Answer start last slots) = refl
 

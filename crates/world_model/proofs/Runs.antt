@@ -1,11 +1,12 @@
 -- A run goes on by one event.
-use Rattle.std.proofs.Common.{◌≡◌, ℕ, suc, ◌+◌, List, [], ◌∷◌, ◌++◌, length, refl, ap, ◌∙◌, sym, arith, append_assoc, append-nil, Bool, Option, None, Some, slice_get}
+use Rattle.std.proofs.Common.{◌≡◌, ℕ, suc, ◌+◌, List, [], ◌∷◌, ◌++◌, length, refl, ap, ◌∙◌, sym, arith, append_assoc, append-nil, Bool, true, false, Option, None, Some, slice_get}
 use Rattle.world_model.specs.declared.line.Line.{Line}
 use Rattle.world_model.specs.Lines.{event_text, lines_from}
 use Rattle.world_model.specs.Tallies.{told_from}
 use Rattle.entry_frames.specs.Durable.{Durable}
-use Rattle.world_model.specs.Nodes.{Volatile}
-use Rattle.world_model.specs.World.{Aim, Member, World, after_stop, after_turn, aim_of, down_as, down_of, run_from, sent_among, show_as, show_of, step, turn_as, turn_at, turn_of, up_as, up_of}
+use Rattle.world_model.specs.Nodes.{Volatile, node_with}
+use Rattle.world_model.specs.Turn as turns
+use Rattle.world_model.specs.World.{Aim, Member, World, after_stop, after_turn, aim_of, counting, down_as, down_of, is_applied, run_from, sent_among, show_as, show_of, step, stopped, turn_as, turn_at, turn_of, up_as, up_of}
 use Rattle.world_model.specs.declared.line.Line.TheVariants as lines
 
 pub run_from-append : (w : World) (events more : List Line) → run_from w (events ++ more) ≡ run_from (run_from w events) more
@@ -50,12 +51,16 @@ module _ (w : World) where
   turn_at_sends None = nothing_sent
   turn_at_sends (Some aim) = turn_of_sends aim (slice_get w.members aim.member)
 
+  stopped_sends : (test : Bool) (me : ℕ) (d : Durable) (t : turns.Turned) → (stopped test w me d t).world.sent ≡ w.sent ++ sent_among (stopped test w me d t).outputs
+  stopped_sends true me d t = nothing_sent
+  stopped_sends false me d t = nothing_sent
+
   module _ (call : ℕ) (keep : Bool) where
     stop_sends :
         (aim : Aim) (d : Durable) (running : Option Volatile) →
         (turn_as (after_stop call keep) w aim d running).world.sent ≡ w.sent ++ sent_among (turn_as (after_stop call keep) w aim d running).outputs
     stop_sends aim d None = nothing_sent
-    stop_sends aim d (Some volatile) = nothing_sent
+    stop_sends aim d (Some volatile) = stopped_sends (is_applied call keep) aim.member d (turns.turn aim.event (node_with w.shape aim.member d volatile))
 
     stop_of_sends :
         (aim : Aim) (found : Option Member) → (turn_of (after_stop call keep) w aim found).world.sent ≡ w.sent ++ sent_among (turn_of (after_stop call keep) w aim found).outputs
@@ -92,8 +97,8 @@ module _ (w : World) where
 
 -- the messages among what a line makes members tell are put on the network
 pub step_sends : (w : World) (line : Line) → (step w line).world.sent ≡ w.sent ++ sent_among (step w line).outputs
-step_sends w (lines.Do inner) = turn_at_sends w (aim_of w inner)
-step_sends w (lines.Down me) = down_of_sends w me (slice_get w.members me)
-step_sends w (lines.Up me) = up_of_sends w me (slice_get w.members me)
-step_sends w (lines.Show me) = show_of_sends w me (slice_get w.members me)
-step_sends w (lines.Stop call keep inner) = stop_at_sends w call keep (aim_of w inner)
+step_sends w (lines.Do inner) = turn_at_sends (counting w) (aim_of w inner)
+step_sends w (lines.Down me) = down_of_sends (counting w) me (slice_get w.members me)
+step_sends w (lines.Up me) = up_of_sends (counting w) me (slice_get w.members me)
+step_sends w (lines.Show me) = show_of_sends (counting w) me (slice_get w.members me)
+step_sends w (lines.Stop call keep inner) = stop_at_sends (counting w) call keep (aim_of w inner)

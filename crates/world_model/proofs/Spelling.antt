@@ -35,7 +35,7 @@ both_parts false b h = cc
 digit_test : (byte digit : ℕ) → digit < 10 → byte ≡ 48 + digit → is_ascii_digit byte ≡ true
 digit_test byte digit small is = grind (arith, nat_tests)
 
-pub AreDigits-test : (bytes : List ℕ) (n : ℕ) → AreDigits bytes n → all_ascii_digits bytes ≡ true
+AreDigits-test : (bytes : List ℕ) (n : ℕ) → AreDigits bytes n → all_ascii_digits bytes ≡ true
 AreDigits-test [] n h = refl
 AreDigits-test (byte ∷ bytes) n (digit, rest, small, is, others, sum) =
     both (is_ascii_digit byte) (all_ascii_digits bytes) (digit_test byte digit small is) (AreDigits-test bytes rest others)

@@ -1,7 +1,6 @@
 -- A stop that is carried out: where its records count it is the done event with its outputs lost, and then down; else it is down alone.
 -- So what each other event keeps, and what the loss of messages keeps, a stop keeps too.
 use Rattle.std.proofs.Common.{◌≡◌, ℕ, List, ◌++◌, Bool, true, false, Option, None, Some, slice_get, length, take, refl, ap, ◌∙◌, subst}
-use Rattle.std.specs.Prelude.{if◌then◌else◌}
 use Rattle.std.specs.List.{All}
 use Rattle.std.proofs.Math.Seq.{take-append_seam}
 use Rattle.std.proofs.lemmas.List.Elements.{All-take}
@@ -9,9 +8,9 @@ use Rattle.entry_frames.specs.Durable.{Durable}
 use Rattle.entry_frames.specs.declared.message.Message.{Message}
 use Rattle.world_model.specs.Nodes.{Volatile, node_with}
 use Rattle.world_model.specs.Turn as turns
-use Rattle.world_model.specs.World.{Aim, Member, World, after_stop, after_turn, aim_of, becoming, down_of, down_with, is_applied, running_as, sent_among, step, turn_as, turn_at, turn_of}
+use Rattle.world_model.specs.World.{Aim, Member, World, after_stop, after_turn, aim_of, becoming, down_of, down_with, happening, is_applied, running_as, sent_among, stopped, tracing, turn_as, turn_at, turn_of}
 use Rattle.world_model.specs.declared.line.Inner.{Inner}
-use Rattle.world_model.specs.declared.line.Line.TheVariants.{Do, Down, Stop}
+use Rattle.world_model.specs.declared.line.Line.TheVariants.{Do, Stop}
 use Rattle.world_model.specs.declared.verdict.Verdict.TheVariants as verdicts
 use Rattle.world_model.proofs.Positions.{set_here, set_twice}
 
@@ -25,7 +24,7 @@ said_before P w now more is all = subst (All P) (ap (take (length w.sent)) is �
 
 module _
     (P : World → Type 0) (unsaid_keeps : (w now : World) (more : List Message) → now.sent ≡ w.sent ++ more → P now → P (unsaid w now))
-    (down_keeps : (w : World) (me : ℕ) → P w → P (step w (Down me)).world)
+    (down_keeps : (w : World) (me : ℕ) → P w → P (down_of w me (slice_get w.members me)).world)
   where
     goes_down :
         (w : World) (me : ℕ) (d : Durable) (volatile : Volatile) → slice_get w.members me ≡ Some (record { durable = d; running = Some volatile }) → P w →
@@ -35,17 +34,17 @@ module _
     -- the records count
     with_records :
         (w : World) (me : ℕ) (m : Member) (before : Durable) (t : turns.Turned) → slice_get w.members me ≡ Some m → P (after_turn w me before t).world →
-        P (becoming w verdicts.Stop me (down_with t.node.durable)).world
+        P (becoming (tracing w me before t) verdicts.Stop me (down_with t.node.durable)).world
     with_records w me m before t here p =
         let now = (after_turn w me before t).world in
         let lost = unsaid w now in
         let there : slice_get lost.members me ≡ Some (running_as t.node) = set_here w.members me m (running_as t.node) here in
-        subst (λ members. P (record { shape = w.shape; members = members; sent = w.sent })) (set_twice w.members me (running_as t.node) (down_with t.node.durable))
+        subst (λ members. P (record (tracing w me before t) { members = members })) (set_twice w.members me (running_as t.node) (down_with t.node.durable))
         (goes_down lost me t.node.durable t.node.volatile there (unsaid_keeps w now (sent_among t.outputs) refl p))
 
     by_test :
         (w : World) (me : ℕ) (d : Durable) (volatile : Volatile) (t : turns.Turned) → slice_get w.members me ≡ Some (record { durable = d; running = Some volatile }) →
-        P w → P (after_turn w me d t).world → (test : Bool) → P (becoming w verdicts.Stop me (down_with (if test then t.node.durable else d))).world
+        P w → P (after_turn w me d t).world → (test : Bool) → P (stopped test w me d t).world
     by_test w me d volatile t here p q true = with_records w me (record { durable = d; running = Some volatile }) d t here q
     by_test w me d volatile t here p q false = goes_down w me d volatile here p
 
@@ -67,5 +66,5 @@ module _
       at_stops None q = p
       at_stops (Some aim) q = of_stops aim (slice_get w.members aim.member) refl q
 
-      pub stops_keep : (inner : Inner) → P (step w (Do inner)).world → P (step w (Stop call keep inner)).world
+      pub stops_keep : (inner : Inner) → P (happening w (Do inner)).world → P (happening w (Stop call keep inner)).world
       stops_keep inner q = at_stops (aim_of w inner) q

@@ -2,6 +2,7 @@ pub mod Nodes
 pub mod Quorums
 pub mod Rules
 pub mod Turn
+pub mod Traces
 pub mod World
 pub mod Tallies
 pub mod Lines

@@ -1,12 +1,15 @@
 -- How great the numbers of a world become: each message that was sent can be written as bytes.
-use Rattle.std.specs.Prelude.{◌≡◌, ℕ, ◌<◌, ◌≤◌, List, length, All, Some, slice_get}
+use Rattle.std.specs.Prelude.{◌≡◌, ℕ, ◌+◌, ◌<◌, ◌≤◌, List, length, All, Some, slice_get}
 use Rattle.craft_base.specs.Shape.{Shape, IsShape, members_of}
-use Rattle.craft_base.specs.declared.command.Entry.{Entry}
+use Rattle.craft_base.specs.Knowledge.{Heard, Told, Answered, Beat, From, Matched, Refused, Voted}
 use Rattle.entry_frames.specs.Durable.{CanApplyAll}
 use Rattle.entry_frames.specs.Formats.{Fits}
-use Rattle.entry_frames.specs.Limits.{greatest, last_place}
+use Rattle.entry_frames.specs.Limits.{greatest}
 use Rattle.entry_frames.specs.MessageFields.{frame_fields}
 use Rattle.entry_frames.specs.MessageParts.{IsPeer, receiver_byte}
+use Rattle.entry_frames.specs.Stored.{DurableInRange}
+use Rattle.entry_frames.specs.declared.role.Role.{Role}
+use Rattle.entry_frames.specs.declared.role.Role.TheVariants.{Leader}
 use Rattle.entry_frames.specs.declared.message.Message.{Message}
 use Rattle.world_model.specs.Nodes.{Node}
 use Rattle.world_model.specs.Safety.{IsRun}
@@ -21,19 +24,37 @@ IsTerm term = (1 ≤ term) × (term ≤ greatest)
 abbrev pub IsMember : Shape → ℕ → Type 0
 IsMember shape member = member < members_of shape
 
--- no more entries than there are indexes, and each was proposed in a term
-pub record LogInRange (log : List Entry) : Type 0 where
-  pub short : length log ≤ last_place
-  pub terms : All (λ entry. IsTerm entry.term) log
+-- what a leader heard, where its log has that last index: it was heard with a last index up to that, and a member goes on from an
+-- index
+abbrev pub ToldInRange : (last at : ℕ) → Told → Type 0
+ToldInRange last at (Voted granted) = Unit {0}
+ToldInRange last at (Matched prev count mask) = at ≤ last
+ToldInRange last at (Refused next) = (at ≤ last) × (1 ≤ next)
+ToldInRange last at Answered = Unit {0}
+
+abbrev pub ItemInRange : (last : ℕ) → Heard → Type 0
+ItemInRange last Beat = Unit {0}
+ItemInRange last (From sender at told) = ToldInRange last at told
+
+-- it says nothing of a log
+abbrev pub IsOfNoLog : Heard → Type 0
+IsOfNoLog Beat = Unit {0}
+IsOfNoLog (From sender at (Voted granted)) = Unit {0}
+IsOfNoLog (From sender at told) = ⊥
+
+-- what a member knows of the others: a leader's items are in range, it begins at most behind its log, and its log isn't empty, so
+-- that there is a term in which it leads; who doesn't lead has heard nothing of logs
+abbrev pub KnowsInRange : Role → (last first : ℕ) → List Heard → Type 0
+KnowsInRange Leader last first heard = (1 ≤ first) × (first ≤ last + 1) × All (ItemInRange last) heard × (1 ≤ last)
+KnowsInRange _ last first heard = All IsOfNoLog heard
 
 -- the node at a position of the world is that member of the cluster, and its numbers are in range
 pub record NodeInRange (shape : Shape) (member : ℕ) (n : Node) : Type 0 where
   pub of_shape : n.shape ≡ shape
   pub me : n.me ≡ member
   pub is_member : IsMember shape member
-  pub term : n.durable.term ≤ greatest
-  pub log : LogInRange n.durable.log
-  pub commit : n.durable.commit ≤ length n.durable.log
+  pub durable : DurableInRange shape n.durable
+  pub knows : KnowsInRange n.volatile.role (length n.durable.log) n.volatile.first n.volatile.heard
 
 -- the message goes from one member to another, and has a spelling as a frame of the cluster
 abbrev pub HasSpelling : Shape → Message → Type 0

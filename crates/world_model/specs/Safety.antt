@@ -1,11 +1,16 @@
 -- What holds of every run.
-use Rattle.std.specs.Prelude.{◌≡◌, ℕ, List, take, All, Option, None, Some, slice_get}
+use Rattle.std.specs.Prelude.{◌≡◌, ◌≢◌, ℕ, ◌+◌, ◌<◌, ◌≤◌, ◌⊎◌, List, [], ◌∷◌, ◌++◌, take, All, ◌&&◌, ◌==◌, nat_lt, if◌then◌else◌, Option, None, Some, slice_get}
 use Rattle.craft_base.specs.Shape.{Shape, IsShape}
+use Rattle.craft_base.specs.declared.command.Entry.{Entry}
+use Rattle.craft_base.specs.declared.command.Form.TheVariants as forms
+use Rattle.entry_frames.specs.Durable.{Durable, born}
+use Rattle.entry_frames.specs.Logs.{entry_at, term_at}
 use Rattle.entry_frames.specs.declared.role.Role.{Role}
 use Rattle.entry_frames.specs.declared.role.Role.TheVariants.{Preparing, Leader}
 use Rattle.world_model.specs.Nodes.{Volatile}
 use Rattle.world_model.specs.Spelling.{IsLineOf}
-use Rattle.world_model.specs.World.{Member, run}
+use Rattle.world_model.specs.Traces.{Command, LeaderCommit, Proposal, Removal}
+use Rattle.world_model.specs.World.{Member, World, run}
 use Rattle.world_model.specs.declared.line.Line.{Line}
 
 -- it has won its term: it leads it, or prepares to
@@ -36,3 +41,78 @@ OneLeaderATerm shape events = (term one other : ℕ) → EverLed shape events te
 pub record IsRun (shape : Shape) (events : List Line) : Type 0 where
   pub of_shape : IsShape shape
   pub in_range : All (IsLineOf shape) events
+
+-- ---- the list of commands
+
+-- the command that the book has for a term and an index, if any
+abbrev pub command_in : List Proposal → (term index : ℕ) → Option Command
+command_in [] term index = None
+command_in (p ∷ book) term index = if (p.term == term) && (p.index == index) then Some p.command else command_in book term index
+
+-- those for the entries of a log, the first of which has that index
+abbrev pub commands_of : List Proposal → ℕ → List Entry → List (Option Command)
+commands_of book index [] = []
+commands_of book index (entry ∷ log) = command_in book entry.term index ∷ commands_of book (index + 1) log
+
+-- the state that is committed further, the first of the two where both are equal
+abbrev pub further : Durable → Durable → Durable
+further one other = if nat_lt one.commit other.commit then other else one
+
+-- the state of the member that is committed furthest, the first such member; that state where none is committed further
+abbrev pub furthest : Durable → List Member → Durable
+furthest d [] = d
+furthest d (m ∷ members) = furthest (further d m.durable) members
+
+-- the entries that are committed, as the log of that member has them
+abbrev pub committed_log : World → List Entry
+committed_log w = let d = furthest born w.members in take d.commit d.log
+
+-- Committed: the list of the commands of these entries
+abbrev pub committed : World → List (Option Command)
+committed w = commands_of w.book 1 (committed_log w)
+
+-- the entry asks for that, and holds the whole value
+abbrev pub StandsFor : Entry → Command → Type 0
+StandsFor entry command = (entry.head ≡ command.head) × (entry.form ≡ forms.Whole command.value)
+
+-- each member has, up to its commit index, an entry for each of these commands
+abbrev pub HoldsCommitted : World → Type 0
+HoldsCommitted w =
+    (me : ℕ) (m : Member) (place : ℕ) → slice_get w.members me ≡ Some m → place < m.durable.commit →
+    (entry : Entry) × (command : Command) × (slice_get m.durable.log place ≡ Some entry)
+    × (slice_get (committed w) place ≡ Some (Some command)) × StandsFor entry command
+
+-- the first list is the beginning of the second
+abbrev pub IsFront : List (Option Command) → List (Option Command) → Type 0
+IsFront front whole = (rest : List (Option Command)) × (front ++ rest ≡ whole)
+
+-- what was committed stays: after each front of the events it was a front of what is committed in the end
+abbrev pub StaysCommitted : Shape → List Line → Type 0
+StaysCommitted shape events = (count : ℕ) → IsFront (committed (run shape (take count events))) (committed (run shape events))
+
+-- ---- what is removed
+
+-- one of the entries, the first of which has that index, stands in the log: there is an entry of its term at its index
+abbrev pub StandsIn : (index : ℕ) → List Entry → List Entry → Type 0
+StandsIn index entries log =
+    (place : ℕ) × (entry : Entry) × (slice_get entries place ≡ Some entry) × (entry_at log (index + place) ≢ None)
+    × (term_at log (index + place) ≡ entry.term)
+
+-- the element stands in the list
+abbrev pub IsIn : {A : Type 0} → A → List A → Type 0
+IsIn a [] = ⊥
+IsIn a (x ∷ xs) = (a ≡ x) ⊎ IsIn a xs
+
+-- nothing was removed that a leader of the remover's term or of a lower one ever commits, before or after
+abbrev pub RemovesUncommitted : World → Type 0
+RemovesUncommitted w =
+    (cut : Removal) (commit : LeaderCommit) → IsIn cut w.cuts → IsIn commit w.commits → commit.term ≤ cut.term →
+    StandsIn cut.index cut.entries commit.log → ⊥
+
+-- The run is safe: one list of commands is committed, for all members and for ever; no entry is removed that a leader of a term up
+-- to the remover's commits; and no term has two leaders.
+pub record IsSafe (shape : Shape) (events : List Line) : Type 0 where
+  pub one_list : HoldsCommitted (run shape events)
+  pub stays : StaysCommitted shape events
+  pub removes : RemovesUncommitted (run shape events)
+  pub one_leader : OneLeaderATerm shape events

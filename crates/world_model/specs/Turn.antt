@@ -12,6 +12,8 @@ use Rattle.entry_frames.specs.declared.role.Role.{Role}
 use Rattle.entry_frames.specs.declared.role.Role.TheVariants.{Follower, Candidate, Preparing, Leader}
 use Rattle.world_model.specs.Nodes.{Node}
 use Rattle.world_model.specs.Rules.Acts.{Act, stays, followed_by, IsRecorded}
+use Rattle.world_model.specs.Rules.Append.{act_of_append}
+use Rattle.world_model.specs.Rules.Matched.{act_of_matched, act_of_refused}
 use Rattle.world_model.specs.Rules.Terms.{act_of_term, act_of_lower_term}
 use Rattle.world_model.specs.Rules.Tick.{act_of_tick}
 use Rattle.world_model.specs.Rules.Vote.{act_of_vote_request}
@@ -32,7 +34,12 @@ pub data Event : Type 0 where
 abbrev pub act_of_peer : Node → ℕ → Peer → Act
 act_of_peer n sender (peers.Vote last_term last) = act_of_vote_request n sender last_term last
 act_of_peer n sender (peers.VoteReply granted) = act_of_vote_reply n sender granted
-act_of_peer n sender _ = stays n
+act_of_peer n sender (peers.Append prev prev_term commit entries) = act_of_append n sender prev prev_term commit entries
+act_of_peer n sender (peers.Matched prev count mask) = act_of_matched n sender prev count mask
+act_of_peer n sender (peers.Refused next) = act_of_refused n sender next
+-- no rule takes these yet
+act_of_peer n sender (peers.Ask start) = stays n
+act_of_peer n sender (peers.Answer start last slots) = stays n
 
 -- a message of another member, by its term and then by what it says; of others nothing comes
 abbrev pub act_of_message : Message → Node → Act

@@ -1,5 +1,5 @@
 -- A whole cluster and its network, and what a line of a schedule makes of them.
-use Rattle.std.specs.Prelude.{ℕ, ◌-◌, List, [], ◌∷◌, ◌++◌, replicate, Option, None, Some, option_map, Bool, ◌&&◌, if◌then◌else◌, nat_le, slice_get, slice_set}
+use Rattle.std.specs.Prelude.{ℕ, ◌+◌, ◌-◌, List, [], ◌∷◌, ◌++◌, replicate, Option, None, Some, option_map, Bool, true, false, ◌&&◌, nat_le, slice_get, slice_set}
 use Rattle.craft_base.specs.Shape.{Shape, members_of}
 use Rattle.entry_frames.specs.Durable.{Durable, born}
 use Rattle.entry_frames.specs.MessageParts.{receiver_byte}
@@ -13,6 +13,7 @@ use Rattle.world_model.specs.declared.line.Line.TheVariants as lines
 use Rattle.world_model.specs.declared.verdict.Verdict.{Verdict}
 use Rattle.world_model.specs.declared.verdict.Verdict.TheVariants.{Done, NoFrame, Skip, Stop}
 use Rattle.world_model.specs.Nodes.{Node, Volatile, fresh, node_with}
+use Rattle.world_model.specs.Traces.{LeaderCommit, Proposal, Removal, leader_commits_in, proposals_in, removals_in}
 use Rattle.world_model.specs.Turn as turns
 
 -- ---- the members and the network
@@ -37,18 +38,29 @@ volatile_of (Some volatile) = volatile
 abbrev pub node_of : Shape → ℕ → Member → Node
 node_of shape me m = node_with shape me m.durable (volatile_of m.running)
 
--- the members, and every message that was ever sent, the first frame first. What is never taken is lost; what is taken again is repeated.
+-- The members, and every message that was ever sent, the first frame first. What is never taken is lost; what is taken again is
+-- repeated. Beside them stands what safety speaks of: how many events there were, and of all of them what leaders proposed, what was
+-- removed from logs, and what leaders committed.
 pub record World : Type 0 where
   pub shape : Shape
   pub members : List Member
   pub sent : List Message
+  pub count : ℕ
+  pub book : List Proposal
+  pub cuts : List Removal
+  pub commits : List LeaderCommit
 
 -- each member runs, and none has ever run before
 abbrev pub newborn : Member
 newborn = record { durable = born; running = Some fresh }
 
 abbrev pub start : Shape → World
-start shape = record { shape = shape; members = replicate (members_of shape) newborn; sent = [] }
+start shape =
+    record { shape = shape; members = replicate (members_of shape) newborn; sent = []; count = 0; book = []; cuts = []; commits = [] }
+
+-- one more event
+abbrev pub counting : World → World
+counting w = record w { count = w.count + 1 }
 
 -- ---- what happens
 
@@ -82,11 +94,21 @@ sent_among (_ ∷ told) = sent_among told
 abbrev pub Ending : Type 0
 Ending = World → ℕ → Durable → turns.Turned → Happened
 
+-- the records of a turn count: what was proposed, removed or committed by a leader in it stands in the lists
+abbrev pub tracing : World → ℕ → Durable → turns.Turned → World
+tracing w me before t =
+    let role = t.node.volatile.role in
+    record w {
+      book = w.book ++ proposals_in w.count role before t.records;
+      cuts = w.cuts ++ removals_in w.count me before t.records;
+      commits = w.commits ++ leader_commits_in w.count role before t.records;
+    }
+
 -- the turn ends: the member is the turn's node, and what it sent can be delivered from then on
 abbrev pub after_turn : Ending
 after_turn w me before t =
     record {
-      world = record w { members = slice_set w.members me (running_as t.node); sent = w.sent ++ sent_among t.outputs };
+      world = record (tracing w me before t) { members = slice_set w.members me (running_as t.node); sent = w.sent ++ sent_among t.outputs };
       verdict = Done;
       member = me;
       outputs = t.outputs;
@@ -98,10 +120,14 @@ after_turn w me before t =
 abbrev pub is_applied : ℕ → Bool → Bool
 is_applied call keep = nat_le 3 call && keep
 
--- the machine stops in a device call of the turn: the member is down, and what it told is lost
+-- the machine stops in a turn whose records count, or don't: the member is down, and what it told is lost
+abbrev pub stopped : Bool → Ending
+stopped true w me before t = becoming (tracing w me before t) Stop me (down_with t.node.durable)
+stopped false w me before t = becoming w Stop me (down_with before)
+
+-- it stops in that device call of the turn
 abbrev pub after_stop : ℕ → Bool → Ending
-after_stop call keep w me before t =
-    becoming w Stop me (down_with (if is_applied call keep then t.node.durable else before))
+after_stop call keep = stopped (is_applied call keep)
 
 -- an event, and the member at which it happens
 pub record Aim : Type 0 where
@@ -162,12 +188,16 @@ show_of w me (Some m) = show_as w me m.durable m.running
 
 -- ---- lines and runs
 
+-- what a line makes of the world in which it is counted already
+abbrev pub happening : World → Line → Happened
+happening w (lines.Do inner) = turn_at after_turn w (aim_of w inner)
+happening w (lines.Down me) = down_of w me (slice_get w.members me)
+happening w (lines.Up me) = up_of w me (slice_get w.members me)
+happening w (lines.Show me) = show_of w me (slice_get w.members me)
+happening w (lines.Stop call keep inner) = turn_at (after_stop call keep) w (aim_of w inner)
+
 abbrev pub step : World → Line → Happened
-step w (lines.Do inner) = turn_at after_turn w (aim_of w inner)
-step w (lines.Down me) = down_of w me (slice_get w.members me)
-step w (lines.Up me) = up_of w me (slice_get w.members me)
-step w (lines.Show me) = show_of w me (slice_get w.members me)
-step w (lines.Stop call keep inner) = turn_at (after_stop call keep) w (aim_of w inner)
+step w line = happening (counting w) line
 
 -- the world after a list of lines
 abbrev pub run_from : World → List Line → World

@@ -75,7 +75,8 @@ pub fn every_turn_is_recorded()
 {}
 
 /// Each record of a turn can be applied to what those before it leave, where the node's numbers are in range and a message that
-/// comes has a spelling: it enters a later term, or casts a vote for a member in a term that had none.
+/// comes has a spelling: it enters a later term, casts a vote for a member in a term that had none, adds an entry in order, removes
+/// or commits what is in the log and isn't committed, or gives a part the value of its length.
 pub fn every_turn_can_be_applied()
     ensures { EveryTurnCanBeApplied }
 {}

@@ -1,38 +1,39 @@
 -- Append: a member that takes one makes the moves accept, learn where its commit index grows, and acknowledge; a member that
 -- passes it over, or refuses it, is a follower as after a restart.
-use Rattle.std.proofs.Common.{◌≡◌, ◌≢◌, ℕ, ◌+◌, ◌<◌, ◌≤◌, ◌⊎◌, min, true, nat_le, nat_lt, List, length, take, drop, refl, sym, ap, subst, ◌∙◌, inl, inr, arith}
+use Rattle.std.proofs.Common.{◌≡◌, ◌≢◌, ℕ, ◌+◌, ◌≤◌, ◌⊎◌, min, true, nat_le, List, length, take, drop, refl, sym, ap, subst, ◌∙◌, inl, inr, arith}
 use Rattle.std.specs.List.{All}
-use Rattle.std.proofs.lemmas.Bool.{cond_both, and_parts, leb-true, ltb-true, eqb-true}
+use Rattle.std.proofs.lemmas.Bool.{cond_both, and_parts, leb-true, eqb-true}
 use Rattle.craft_base.specs.Shape.{Shape}
 use Rattle.craft_base.specs.declared.command.Entry.{Entry}
 use Rattle.entry_frames.specs.Durable.{Durable, after as applied_all}
-use Rattle.entry_frames.specs.Records.{Commit}
 use Rattle.entry_frames.specs.declared.peer.Peer.TheVariants as peers
-use Rattle.entry_frames.specs.declared.role.Role.{Role}
-use Rattle.entry_frames.specs.declared.role.Role.TheVariants.{Follower, Candidate, Preparing, Leader}
+use Rattle.entry_frames.specs.declared.role.Role.TheVariants.{Follower}
 use Rattle.world_model.specs.Nodes.{Node}
-use Rattle.world_model.specs.Rules.Acts.{followed_by, message_of, recording, stays}
-use Rattle.world_model.specs.Rules.Append.{act_of_append, act_of_append_as, act_of_entries, act_of_following, act_of_heard_append, act_of_match, act_of_refusal, act_of_suited, act_of_taking, difference, following, has_before, is_clash, mask_of, taken_records}
+use Rattle.world_model.specs.Rules.Acts.{followed_by, message_of, stays}
+use Rattle.world_model.specs.Rules.Append.{act_of_entries, act_of_heard_append, act_of_match, act_of_refusal, act_of_suited, act_of_taking, difference, following, has_before, is_clash, mask_of, taken_records}
 use Rattle.world_model.specs.Rules.Applying.{act_of_commit}
 use Rattle.world_model.specs.Rules.Terms.{refusal}
 use Rattle.protocol.specs.History as protocol
 use Rattle.protocol.specs.Invariants.{Sound}
 use Rattle.protocol.specs.Logs.{Agree, term_at}
-use Rattle.protocol.specs.Moves.{Accept, Learn, Restart, Reached, after}
+use Rattle.protocol.specs.Moves.{Accept, Restart, Reached, after}
 use Rattle.protocol.proofs.Counting.{put_same}
 use Rattle.protocol.proofs.Logs.{agree_less}
 use Rattle.protocol.proofs.Messages.{agrees_at}
-use Rattle.protocol.proofs.Runs.{moves_trans, sound_reached}
+use Rattle.protocol.proofs.Runs.{sound_reached}
 use Rattle.bridge.specs.Views.{log_seen, role_seen}
 use Rattle.bridge.specs.Agreement.{AppendAgrees, HeardAgrees, MatchedAgrees, NodeAgrees}
 use Rattle.bridge.specs.Bridges.{ActBridged, OwnMoves}
 use Rattle.bridge.proofs.Acknowledging.{acknowledged, acknowledged_agrees, acknowledged_reach, acknowledged_whole, acknowledges}
-use Rattle.bridge.proofs.Facts.{all_heard_stays, append_stays}
+use Rattle.bridge.proofs.Facts.{all_heard_stays}
+use Rattle.bridge.proofs.Restarting.{restarted_agrees, restarts}
 use Rattle.bridge.proofs.Masks.{stretch_bit}
-use Rattle.bridge.proofs.Steps.{after_moves, moved, moved_then, own_move, own_none, reached_grows, sends_none, sends_one, unmoved, unmoved_stays}
+use Rattle.bridge.proofs.Steps.{moved, moved_then, own_move, reached_grows, sends_none, sends_one, unmoved, unmoved_stays}
 use Rattle.bridge.proofs.Taking.{IsTaken}
 use Rattle.bridge.proofs.TakenRecords.{IsTakenBy, records_taken}
 use Rattle.bridge.proofs.Views.{length_seen, term_at_seen}
+use Rattle.bridge.proofs.Starts.{knows_follower}
+use Rattle.bridge.proofs.Rules.Applying.{learn_then}
 use Rattle.bridge.proofs.Rules.Terms.{refusal_agrees}
 
 match_bridged :
@@ -52,53 +53,15 @@ match_bridged {g = g} {member = member} {n = n} reached a leader prev count apar
     moved _ (acknowledges reached a (prev + count) agrees) (acknowledged_agrees reached a (prev + count) agrees)
     (sends_one h (message_of n (peers.Matched prev count mask) leader) (record { apart = λ e. apart (sym e ∙ a.me); body_agrees = matched }))
 
--- ---- the commit index
-
-module _
-    {shape : Shape} {g : protocol.History} {member : ℕ} {n : Node} (reached : Reached shape.faults g) (a : NodeAgrees shape g member n)
-    (index : ℕ) (more : n.durable.commit < index) (agrees : Agree (log_seen n.durable.log) (g.led n.durable.term) index)
-    (known : (index ≤ g.base n.durable.term) ⊎ (index ≤ g.decided n.durable.term)) where
-  -- one that the leader had, as far as the log is the leader's
-  learns : OwnMoves shape.faults member g (after g (Learn member index))
-  learns =
-      own_move (Learn member index) (
-        omega (arith, a.commit, more),
-        subst (λ t. Agree (g.log member) (g.led t) index) (sym a.term) (subst (λ log. Agree log (g.led n.durable.term) index) (sym a.log) agrees),
-        subst (λ t. (index ≤ g.base t) ⊎ (index ≤ g.decided t)) (sym a.term) known,
-      )
-
-  learnt_agrees : NodeAgrees shape (after g (Learn member index)) member (recording (Commit index) (stays n)).node
-  learnt_agrees = record {
-    of_shape = a.of_shape;
-    me = a.me;
-    within = a.within;
-    term = a.term;
-    vote = a.vote;
-    log = a.log;
-    commit = put_same member index g.commit;
-    role = a.role;
-    heard = all_heard_stays (reached_grows reached learns.run) n.durable.term member n.volatile.heard a.heard;
-    needs = a.needs;
-  }
-
 -- the commit index grows where it can, and the leader is told
 learn_and_match :
     {shape : Shape} {g : protocol.History} {member : ℕ} {n : Node} → Reached shape.faults g → NodeAgrees shape g member n →
     (leader prev count index : ℕ) → leader ≢ member → Agree (log_seen n.durable.log) (g.led n.durable.term) (prev + count) →
     index ≤ prev + count → (index ≤ g.base n.durable.term) ⊎ (index ≤ g.decided n.durable.term) →
     ActBridged shape g member (followed_by (act_of_commit index n) (act_of_match leader prev count))
-learn_and_match {shape = shape} {g = g} {member = member} {n = n} reached a leader prev count index apart agrees within known =
-    cond_both (nat_lt n.durable.commit index) (recording (Commit index) (stays n)) (stays n)
-    (λ act. ActBridged shape g member (followed_by act (act_of_match leader prev count)))
-    (λ greater.
-    let more = ltb-true _ _ greater in
-    let before = agree_less index within agrees in
-    moved_then reached (recording (Commit index) (stays n)) (act_of_match leader prev count) (learns reached a index more before known)
-    (learnt_agrees reached a index more before known) (sends_none (after g (Learn member index)))
-    (λ later. match_bridged later (learnt_agrees reached a index more before known) leader prev count apart agrees))
-    (λ less.
-    moved_then reached (stays n) (act_of_match leader prev count) (own_none g) a (sends_none g)
-    (λ later. match_bridged later a leader prev count apart agrees))
+learn_and_match reached a leader prev count index apart agrees within known =
+    learn_then reached a index (act_of_match leader prev count) (agree_less index within agrees) known
+    (λ later node. match_bridged later node leader prev count apart agrees) (match_bridged reached a leader prev count apart agrees)
 
 -- ---- the entries
 
@@ -124,7 +87,7 @@ module _
   abbrev taken : Durable
   taken = applied_all n.durable (taken_records prev n.durable.log entries)
 
-  entries_taken : IsTakenBy n.durable taken (g.led n.durable.term) (prev + length entries)
+  pub entries_taken : IsTakenBy n.durable taken (g.led n.durable.term) (prev + length entries)
   entries_taken = records_taken n.durable entries (g.led n.durable.term) prev before_agrees told.within told.terms
 
   abbrev accepted : protocol.History
@@ -153,6 +116,7 @@ module _
     heard =
         subst (λ t. All (HeardAgrees accepted t member) n.volatile.heard) (sym entries_taken.term)
         (all_heard_stays (reached_grows reached accepts.run) n.durable.term member n.volatile.heard a.heard);
+    knows = knows_follower (length taken.log) n.volatile.first n.volatile.heard follows;
     needs = a.needs;
   }
 
@@ -176,7 +140,7 @@ module _
 
 -- ---- the rule
 
-heard_append_bridged :
+pub heard_append_bridged :
     {shape : Shape} {g : protocol.History} {member : ℕ} {n : Node} (reached : Reached shape.faults g) (a : NodeAgrees shape g member n)
     (leader prev prev_term commit : ℕ) (entries : List Entry) → leader ≢ member → AppendAgrees g n.durable.term prev prev_term commit entries →
     n.volatile.role ≡ Follower → ActBridged shape g member (act_of_heard_append leader prev prev_term commit entries n)
@@ -186,39 +150,10 @@ heard_append_bridged {shape = shape} {g = g} {member = member} {n = n} reached a
     (λ here. suited_bridged reached a prev prev_term commit entries told here leader apart follows)
     (λ lacks. unmoved (act_of_refusal leader n) a (sends_one g (message_of n (refusal n) leader) (refusal_agrees a leader apart)))
 
-module _
-    {shape : Shape} {g : protocol.History} {member : ℕ} {n : Node} (reached : Reached shape.faults g) (a : NodeAgrees shape g member n)
-    (leader prev prev_term commit : ℕ) (entries : List Entry) (apart : leader ≢ member)
-    (told : AppendAgrees g n.durable.term prev prev_term commit entries) where
-  -- who hears the leader follows it, as after a restart
-  restarts : OwnMoves shape.faults member g (after g (Restart member))
-  restarts = own_move (Restart member) tt
-
-  follower_agrees : NodeAgrees shape (after g (Restart member)) member (record n { volatile = following leader n })
-  follower_agrees = record {
-    of_shape = a.of_shape;
-    me = a.me;
-    within = a.within;
-    term = a.term;
-    vote = a.vote;
-    log = a.log;
-    commit = a.commit;
-    role = put_same member protocol.Follower g.role;
-    heard = all_heard_stays (reached_grows reached restarts.run) n.durable.term member n.volatile.heard a.heard;
-    needs = a.needs;
-  }
-
-  following_bridged : ActBridged shape g member (act_of_following leader prev prev_term commit entries n)
-  following_bridged =
-      after_moves restarts
-      (heard_append_bridged (moves_trans shape.faults _ g (after g (Restart member)) reached restarts.run) follower_agrees leader prev prev_term commit
-      entries apart (append_stays (reached_grows reached restarts.run) n.durable.term prev prev_term commit entries told) refl)
-
-  append_as_bridged : (role : Role) → ActBridged shape g member (act_of_append_as role n leader prev prev_term commit entries)
-  append_as_bridged Follower = following_bridged
-  append_as_bridged Candidate = following_bridged
-  append_as_bridged Preparing = unmoved_stays a
-  append_as_bridged Leader = unmoved_stays a
-
-  pub append_bridged : ActBridged shape g member (act_of_append n leader prev prev_term commit entries)
-  append_bridged = append_as_bridged n.volatile.role
+-- who hears the leader follows it, as after a restart
+pub follower_agrees :
+    {shape : Shape} {g : protocol.History} {member : ℕ} {n : Node} (reached : Reached shape.faults g) (a : NodeAgrees shape g member n) (leader : ℕ) →
+    NodeAgrees shape (after g (Restart member)) member (record n { volatile = following leader n })
+follower_agrees {g = g} {member = member} {n = n} reached a leader =
+    restarted_agrees a (following leader n) refl
+    (all_heard_stays (reached_grows reached (restarts g member).run) n.durable.term member n.volatile.heard a.heard)

@@ -23,6 +23,7 @@ use Rattle.protocol.proofs.Runs.{sound_reached}
 use Rattle.protocol.proofs.Slots.{term_at-take}
 use Rattle.bridge.specs.Views.{log_seen, role_seen}
 use Rattle.bridge.specs.Agreement.{AppendAgrees, MessageAgrees, NodeAgrees}
+use Rattle.bridge.proofs.Starts.{starts_within}
 use Rattle.bridge.proofs.Steps.{sends_none, sends_one}
 use Rattle.bridge.proofs.Stretches.{term_at-drop}
 use Rattle.bridge.proofs.Views.{drop_seen, length_seen, take_seen, term_at_seen}
@@ -91,16 +92,12 @@ module _
             (leader_commit shape.faults g leading_sound member leading_role));
       }
 
--- where the node leads, what it sends to each member starts at most behind its log
-abbrev pub StartsWithin : Node → Type 0
-StartsWithin n = n.volatile.role ≡ Leader → (member : ℕ) → start_of n member ≤ length n.durable.log + 1
-
 module _
     {shape : Shape} {g : protocol.History} {member : ℕ} {n : Node} (reached : Reached shape.faults g) (a : NodeAgrees shape g member n)
-    (leads : n.volatile.role ≡ Leader) (starts : StartsWithin n) where
+    (leads : n.volatile.role ≡ Leader) where
   pub append_to_agrees : (receiver : ℕ) → n.me ≢ receiver → MessageAgrees g (append_to n receiver)
   append_to_agrees receiver apart =
-      let within : start_of n receiver ≤ length n.durable.log + 1 = starts leads receiver in
+      let within : start_of n receiver ≤ length n.durable.log + 1 = starts_within n leads a.knows receiver in
       record {
         apart = apart;
         body_agrees =

@@ -28,6 +28,7 @@ module _ {shape : Shape} {g : protocol.History} {member : ℕ} {n : Node} (a : N
     commit = a.commit;
     role = put_same member protocol.Follower g.role;
     heard = All-nil (HeardAgrees (after g (Raise member term)) term member);
+    knows = tt;
     needs = a.needs;
   }
 

@@ -1,5 +1,5 @@
 -- Tick: a member that stands makes the move of that name; a member that waits or beats makes none.
-use Rattle.std.proofs.Common.{◌≡◌, ℕ, suc, ◌+◌, Some, sym, ap, ◌∙◌, arith, length}
+use Rattle.std.proofs.Common.{◌≡◌, ℕ, suc, ◌+◌, Some, refl, sym, ap, ◌∙◌, arith, length}
 use Rattle.std.proofs.lemmas.Bool.{cond_both}
 use Rattle.std.proofs.lemmas.List.Elements.{All-nil}
 use Rattle.craft_base.specs.Shape.{Shape}
@@ -16,11 +16,11 @@ use Rattle.protocol.specs.History as protocol
 use Rattle.protocol.specs.Logs.{last_term}
 use Rattle.protocol.specs.Moves.{Reached, Stand, after}
 use Rattle.protocol.proofs.Counting.{put_same, put_at_same}
-use Rattle.bridge.specs.Agreement.{AskAgrees, HeardAgrees, NodeAgrees}
+use Rattle.bridge.specs.Agreement.{AskAgrees, HeardAgrees, ItemWithin, NodeAgrees}
 use Rattle.bridge.specs.Bridges.{ActBridged}
 use Rattle.bridge.proofs.Facts.{hearing_agrees}
 use Rattle.bridge.proofs.Steps.{moved, own_move, sends_to_others, unmoved, unmoved_stays}
-use Rattle.bridge.proofs.Rules.Say.{StartsWithin, appends_agree}
+use Rattle.bridge.proofs.Rules.Say.{appends_agree}
 use Rattle.bridge.proofs.Views.{length_seen, last_term_seen}
 
 -- who stood, voted for itself and showed its log
@@ -42,6 +42,7 @@ module _ {shape : Shape} {g : protocol.History} {member : ℕ} {n : Node} (a : N
     commit = a.commit;
     role = put_same member protocol.Candidate g.role;
     heard = All-nil (HeardAgrees (after g (Stand member)) (n.durable.term + 1) member);
+    knows = All-nil (ItemWithin (length n.durable.log));
     needs = a.needs;
   }
 
@@ -68,26 +69,26 @@ module _ {shape : Shape} {g : protocol.History} {member : ℕ} {n : Node} (a : N
   waiting_agrees = assumption a
 
   beat_agrees : NodeAgrees shape g member (node_hearing Beat n)
-  beat_agrees = hearing_agrees Beat a tt
+  beat_agrees = hearing_agrees Beat a tt tt
 
 -- a leader that beats sends to each other member from where it lacks something, and makes no move
-pub beat_bridged :
+beat_bridged :
     {shape : Shape} {g : protocol.History} {member : ℕ} {n : Node} → Reached shape.faults g → NodeAgrees shape g member n →
-    n.volatile.role ≡ Leader → StartsWithin (node_hearing Beat n) →
+    n.volatile.role ≡ Leader →
     ActBridged shape g member (sending (appends_to_others (node_hearing Beat n)) (stays (node_hearing Beat n)))
-beat_bridged {n = n} reached a leads starts =
+beat_bridged {n = n} reached a leads =
     unmoved (sending (appends_to_others (node_hearing Beat n)) (stays (node_hearing Beat n))) (beat_agrees a)
-    (appends_agree reached (beat_agrees a) leads starts)
+    (appends_agree reached (beat_agrees a) leads)
 
 tick_as_bridged :
-    {shape : Shape} {g : protocol.History} {member : ℕ} {n : Node} (role : Role) (word : ℕ) → NodeAgrees shape g member n →
-    ActBridged shape g member (act_of_tick_as role word n)
-tick_as_bridged Follower word a = waiting_bridged (waiting_agrees a) word
-tick_as_bridged Candidate word a = waiting_bridged (waiting_agrees a) word
-tick_as_bridged Preparing word a = unmoved_stays (beat_agrees a)
-tick_as_bridged Leader word a = unmoved_stays (beat_agrees a)
+    {shape : Shape} {g : protocol.History} {member : ℕ} {n : Node} (role : Role) (word : ℕ) → Reached shape.faults g → NodeAgrees shape g member n →
+    n.volatile.role ≡ role → ActBridged shape g member (act_of_tick_as role word n)
+tick_as_bridged Follower word reached a e = waiting_bridged (waiting_agrees a) word
+tick_as_bridged Candidate word reached a e = waiting_bridged (waiting_agrees a) word
+tick_as_bridged Preparing word reached a e = unmoved_stays (beat_agrees a)
+tick_as_bridged Leader word reached a e = beat_bridged reached a e
 
 pub tick_bridged :
-    {shape : Shape} {g : protocol.History} {member : ℕ} {n : Node} (word : ℕ) → NodeAgrees shape g member n →
+    {shape : Shape} {g : protocol.History} {member : ℕ} {n : Node} (word : ℕ) → Reached shape.faults g → NodeAgrees shape g member n →
     ActBridged shape g member (act_of_tick word n)
-tick_bridged {n = n} word a = tick_as_bridged n.volatile.role word a
+tick_bridged {n = n} word reached a = tick_as_bridged n.volatile.role word reached a refl

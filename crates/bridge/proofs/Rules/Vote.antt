@@ -53,6 +53,7 @@ module _
     commit = a.commit;
     role = a.role;
     heard = all_heard_stays x n.durable.term member n.volatile.heard a.heard;
+    knows = a.knows;
     needs = a.needs;
   }
   vote_agrees (Some voted) is free x = record {
@@ -65,6 +66,7 @@ module _
     commit = a.commit;
     role = a.role;
     heard = all_heard_stays x n.durable.term member n.volatile.heard a.heard;
+    knows = a.knows;
     needs = a.needs;
   }
 

@@ -1,16 +1,18 @@
--- VoteReply: a candidate that has won makes the moves win and begin, the second of them with its log as it is.
-use Rattle.std.proofs.Common.{◌≡◌, ◌≢◌, ℕ, ◌<◌, ◌≤◌, le_trans, true, Bool, List, [], ◌∷◌, Some, refl, sym, ap, ◌∙◌, inl, inr, arith}
+-- VoteReply: a candidate that has won makes the moves of Prepare, the first of which is allowed since each vote that it counts was cast;
+-- any other member makes none.
+use Rattle.std.proofs.Common.{◌≡◌, ◌≢◌, ℕ, ◌<◌, ◌≤◌, le_refl, le_trans, true, Bool, List, [], ◌∷◌, Some, refl, sym, ap, ◌∙◌, inl, inr, arith}
 use Rattle.std.specs.List.{All}
 use Rattle.std.proofs.lemmas.Bool.{cond_both, and_parts, or_cases, eqb-true, leb-true, true≢false, false_from_ne_true}
 use Rattle.std.proofs.lemmas.List.Elements.{All-head, All-tail}
-use Rattle.craft_base.specs.Shape.{Shape, members_of, majority_of}
+use Rattle.craft_base.specs.Shape.{IsShape, Shape, members_of, majority_of}
 use Rattle.craft_base.specs.Knowledge as known
 use Rattle.entry_frames.specs.declared.role.Role.{Role}
 use Rattle.entry_frames.specs.declared.role.Role.TheVariants.{Follower, Candidate, Preparing, Leader}
 use Rattle.craft_base.specs.Knowledge.{Heard, Told, Beat, From, Voted, Matched, Refused, Answered}
 use Rattle.world_model.specs.Nodes.{Node}
 use Rattle.world_model.specs.Rules.Acts.{stays}
-use Rattle.world_model.specs.Rules.VoteReply.{act_of_count, act_of_vote_reply, act_of_vote_reply_as, has_won, leading_node, vote_heard}
+use Rattle.world_model.specs.Rules.VoteReply.{act_of_count, act_of_vote_reply, act_of_vote_reply_as, has_won, vote_heard}
+use Rattle.world_model.specs.Rules.Prepare.{act_of_leading}
 use Rattle.protocol.specs.History as protocol
 use Rattle.protocol.specs.Words.{is_for, votes}
 use Rattle.protocol.specs.Moves.{Win, Allowed, Reached}
@@ -21,8 +23,8 @@ use Rattle.bridge.specs.Agreement.{HeardAgrees, NodeAgrees}
 use Rattle.bridge.specs.Bridges.{ActBridged}
 use Rattle.bridge.proofs.Counting.{count_members, count_one_more}
 use Rattle.bridge.proofs.Facts.{hearing_agrees}
-use Rattle.bridge.proofs.Steps.{moved, sends_none, unmoved_stays}
-use Rattle.bridge.proofs.Rules.Prepare.{led, led_agrees, leads}
+use Rattle.bridge.proofs.Steps.{unmoved_stays}
+use Rattle.bridge.proofs.Rules.Prepare.{leading_bridged}
 
 -- a granted vote that was heard was cast, by another member
 heard_vote :
@@ -63,7 +65,7 @@ votes_counted shape g member term heard within own a =
 module _
     {shape : Shape} {g : protocol.History} {member : ℕ} {n : Node} (reached : Reached shape.faults g) (a : NodeAgrees shape g member n)
   where
-    won_allowed : n.volatile.role ≡ Candidate → has_won n ≡ true → Allowed shape.faults g (Win member)
+    pub won_allowed : n.volatile.role ≡ Candidate → has_won n ≡ true → Allowed shape.faults g (Win member)
     won_allowed role won =
         let stands : g.role member ≡ protocol.Candidate = a.role ∙ ap role_seen role in
         let own : g.voted (g.term member) member ≡ Some member = ((votes_reached shape.faults g reached).standing member stands).0 in
@@ -72,26 +74,22 @@ module _
         votes_counted shape g member n.durable.term n.volatile.heard a.within (rw (← a.term) own) a.heard in
         (stands, rw a.term (le_trans majority counted))
 
-    leading_bridged : Allowed shape.faults g (Win member) → ActBridged shape g member (stays (leading_node n))
-    leading_bridged allowed =
-        moved _ (leads shape allowed) (led_agrees shape allowed reached a (leading_node n).volatile refl refl) (sends_none (led g member))
-
-    count_bridged : n.volatile.role ≡ Candidate → ActBridged shape g member (act_of_count n)
-    count_bridged role =
-        cond_both (has_won n) (stays (leading_node n)) (stays n) (ActBridged shape g member)
-        (λ won. leading_bridged (won_allowed role won)) (λ waits. unmoved_stays a)
+    count_bridged : IsShape shape → n.volatile.role ≡ Candidate → ActBridged shape g member (act_of_count n)
+    count_bridged is role =
+        cond_both (has_won n) (act_of_leading n) (stays n) (ActBridged shape g member)
+        (λ won. leading_bridged reached is a role (won_allowed role won)) (λ waits. unmoved_stays a)
 
 vote_reply_as_bridged :
     {shape : Shape} {g : protocol.History} {member : ℕ} {n : Node} (role : Role) (sender : ℕ) (granted : Bool) →
-    Reached shape.faults g → NodeAgrees shape g member n → HeardAgrees g n.durable.term member (vote_heard n sender granted) →
+    Reached shape.faults g → IsShape shape → NodeAgrees shape g member n → HeardAgrees g n.durable.term member (vote_heard n sender granted) →
     n.volatile.role ≡ role → ActBridged shape g member (act_of_vote_reply_as role n sender granted)
-vote_reply_as_bridged Follower sender granted reached a told e = unmoved_stays a
-vote_reply_as_bridged {n = n} Candidate sender granted reached a told e = count_bridged reached (hearing_agrees (vote_heard n sender granted) a told) e
-vote_reply_as_bridged {n = n} Preparing sender granted reached a told e = unmoved_stays (hearing_agrees (vote_heard n sender granted) a told)
-vote_reply_as_bridged {n = n} Leader sender granted reached a told e = unmoved_stays (hearing_agrees (vote_heard n sender granted) a told)
+vote_reply_as_bridged Follower sender granted reached is a told e = unmoved_stays a
+vote_reply_as_bridged {n = n} Candidate sender granted reached is a told e = count_bridged reached (hearing_agrees (vote_heard n sender granted) a (le_refl _) told) is e
+vote_reply_as_bridged {n = n} Preparing sender granted reached is a told e = unmoved_stays (hearing_agrees (vote_heard n sender granted) a (le_refl _) told)
+vote_reply_as_bridged {n = n} Leader sender granted reached is a told e = unmoved_stays (hearing_agrees (vote_heard n sender granted) a (le_refl _) told)
 
 pub vote_reply_bridged :
     {shape : Shape} {g : protocol.History} {member : ℕ} {n : Node} (sender : ℕ) (granted : Bool) →
-    Reached shape.faults g → NodeAgrees shape g member n → HeardAgrees g n.durable.term member (vote_heard n sender granted) →
+    Reached shape.faults g → IsShape shape → NodeAgrees shape g member n → HeardAgrees g n.durable.term member (vote_heard n sender granted) →
     ActBridged shape g member (act_of_vote_reply n sender granted)
-vote_reply_bridged {n = n} sender granted reached a told = vote_reply_as_bridged n.volatile.role sender granted reached a told refl
+vote_reply_bridged {n = n} sender granted reached is a told = vote_reply_as_bridged n.volatile.role sender granted reached is a told refl

@@ -1,74 +1,89 @@
-//! Tick: a member that has heard nothing for long enough stands for election.
-ghost use Rattle.std.specs.Prelude.{◌<◌, ◌+◌, IfOk};
+//! Tick: a member that has heard nothing for long enough stands for election; a leader sends to all others.
+ghost use Rattle.std.specs.Prelude.{◌<◌, [], None, IfOk, OnOk};
+ghost use Rattle.craft_base.specs.Knowledge.{Beat};
 ghost use Rattle.entry_frames.specs.Limits.{greatest};
+ghost use Rattle.entry_frames.specs.declared.role.Role.TheVariants.{Candidate};
 
 use crate::act::Act;
-use crate::member::Core;
-use crate::voters::Voters;
+use crate::member::Member;
 use craft_base::OutOfMemory;
+use entry_frames::RecordView;
 use peer_frames::Role;
 
 /// Quiet ticks are counted up to here.
 const MOST_QUIET: u64 = 100;
 
-impl Core {
-    ghost use Rattle.node_core.specs.Stands.{Acts, Becomes};
-    ghost use Rattle.world_model.specs.Rules.Tick.{act_of_candidacy, act_of_tick, act_of_waiting, vote_requests, waiting_node};
-    ghost use Rattle.world_model.specs.Rules.Acts.{sending, stays};
+impl Act {
+    ghost use Rattle.node_core.specs.Acting.{Acts, IsRangedMember};
+    ghost use Rattle.world_model.specs.Nodes.{node_hearing};
+    ghost use Rattle.world_model.specs.Rules.Acts.{stays};
+    ghost use Rattle.world_model.specs.Rules.Tick.{act_of_candidacy, act_of_tick, act_of_waiting, waiting_node};
 
     /// Time passes. `word` chooses how many quiet ticks are enough.
-    pub(crate) fn tick(&mut self, word: u64, act: Act) -> Result<Act, OutOfMemory>
-        ensures { IfOk result (Acts (act_of_tick word) self.old self.new act) }
+    pub(crate) fn tick(self, word: u64) -> Result<Act, OutOfMemory>
+        requires { IsRangedMember self.member }
+        ensures { IfOk result (Acts (act_of_tick word) self) }
     {
-        match self.role {
-            Role::Follower | Role::Candidate => {
-                self.wait();
-                let act = self.stand_if_due(word, act)?;
-                Ok(act)
-            }
-            // A beat tells a leader who answered since the one before; nothing is asked of it yet.
-            Role::Preparing | Role::Leader => Ok(act),
+        match self.member.role {
+            Role::Follower | Role::Candidate => self.wait(word),
+            Role::Preparing => Ok(self.beat()),
+            Role::Leader => self.beat().append_to_others(),
         }
     }
 
+    /// Counts a beat, by which it tells who answered since the one before.
+    fn beat(self) -> Act
+        ensures { Acts (λ n. stays (node_hearing Beat n)) self result }
+    {
+        let mut act = self;
+        act.member.heard.beat();
+        act
+    }
+
+    /// Counts one more quiet tick, and stands for election where it has waited long enough and a higher term is left.
+    fn wait(self, word: u64) -> Result<Act, OutOfMemory>
+        ensures { IfOk result (Acts (λ n. act_of_waiting word (waiting_node n)) self) }
+    {
+        let mut act = self;
+        act.member.count_quiet();
+        if !election::starts(act.member.quiet, word, act.member.store.term()) {
+            return Ok(act);
+        }
+        let act = act.become_candidate()?;
+        act.ask_for_votes()
+    }
+
+    /// Becomes a candidate in the next term, with its own vote.
+    fn become_candidate(self) -> Result<Act, OutOfMemory>
+        requires { self.member.store.kept.term < greatest }
+        ensures { IfOk result (Acts act_of_candidacy self) }
+    {
+        let next = self.member.store.term() + 1;
+        let me = self.member.me.number();
+        let mut act = self.record(&RecordView::Term(next, Some(me)))?;
+        act.member.enter_as_candidate()?;
+        Ok(act)
+    }
+}
+
+impl Member {
+    ghost use Rattle.node_core.specs.Acting.{Becomes};
+    ghost use Rattle.world_model.specs.Rules.Tick.{waiting_node};
+
     /// Counts one more quiet tick.
-    fn wait(&mut self)
+    fn count_quiet(&mut self)
         ensures { Becomes waiting_node self.old self.new }
     {
         self.quiet = self.quiet.saturating_add(1).min(MOST_QUIET);
     }
 
-    /// Stands for election where it has waited long enough and a higher term is left.
-    fn stand_if_due(&mut self, word: u64, act: Act) -> Result<Act, OutOfMemory>
-        ensures { IfOk result (Acts (act_of_waiting word) self.old self.new act) }
+    /// A candidate in a new term: nobody is known to lead it, and nothing was heard.
+    fn enter_as_candidate(&mut self) -> Result<(), OutOfMemory>
+        ensures { OnOk result (Becomes (λ n. record n { volatile = record { role = Candidate; quiet = 0; hint = None; heard = []; first = 0 } }) self.old self.new) }
     {
-        if !election::starts(self.quiet, word, self.store.term()) {
-            return Ok(act);
-        }
-        let act = self.become_candidate(act)?;
-        let act = self.ask_for_votes(act)?;
-        Ok(act)
-    }
-
-    /// Becomes a candidate in the next term, with its own vote.
-    fn become_candidate(&mut self, act: Act) -> Result<Act, OutOfMemory>
-        requires { self.old.durable.term < greatest }
-        ensures { IfOk result (Acts act_of_candidacy self.old self.new act) }
-    {
-        let next = self.store.term() + 1;
-        let me = self.me.number();
-        let act = self.record_term(next, Some(me), act)?;
         self.role = Role::Candidate;
         self.quiet = 0;
         self.hint = None;
-        self.voters = Voters::none();
-        Ok(act)
-    }
-
-    /// Asks all others for their vote, and shows where its log ends.
-    fn ask_for_votes(&mut self, act: Act) -> Result<Act, OutOfMemory>
-        ensures { IfOk result (Acts (λ n. sending (vote_requests n) (stays n)) self.old self.new act) }
-    {
-        self.ask_others(act)
+        self.forget()
     }
 }

@@ -1,60 +1,63 @@
 //! VoteReply: a candidate that has the votes of more than half of the members leads.
-ghost use Rattle.std.specs.Prelude.{◌≡◌};
+ghost use Rattle.std.specs.Prelude.{◌≡◌, ◌≤◌, IfOk};
+ghost use Rattle.entry_frames.specs.declared.role.Role.TheVariants.{Candidate};
+ghost use Rattle.world_model.specs.Nodes.{Node, node_hearing};
 
-use crate::member::Core;
-use craft_base::MemberId;
+use crate::act::Act;
+use crate::member::Member;
+use craft_base::{MemberId, OutOfMemory};
 use peer_frames::Role;
 
-impl Core {
-    ghost use Rattle.node_core.specs.Stands.{Becomes, Stands};
-    ghost use Rattle.world_model.specs.Nodes.{Node, node_hearing};
-    ghost use Rattle.world_model.specs.Rules.VoteReply.{act_of_count, act_of_vote_reply, has_won, leading_node, vote_heard};
+impl Act {
+    ghost use Rattle.node_core.specs.Acting.{Acts, IsRangedMember};
+    ghost use Rattle.world_model.specs.Rules.Acts.{stays};
+    ghost use Rattle.world_model.specs.Rules.VoteReply.{act_of_count, act_of_vote_reply, vote_heard};
 
-    /// Hears a reply of this term. It records and sends nothing.
-    pub(crate) fn count_reply(&mut self, sender: MemberId, granted: bool)
-        ensures { Becomes (λ n. (act_of_vote_reply n sender granted).node) self.old self.new }
+    /// Hears a reply of this term.
+    pub(crate) fn count_reply(self, sender: MemberId, granted: bool) -> Result<Act, OutOfMemory>
+        requires ranged { IsRangedMember self.member }
+        requires begun { 1 ≤ self.member.store.kept.term }
+        ensures { IfOk result (Acts (λ n. act_of_vote_reply n sender granted) self) }
     {
-        match self.role {
-            Role::Follower => {}
-            Role::Candidate => {
-                self.hear_vote(sender, granted);
-                self.lead_if_won();
-            }
-            Role::Preparing | Role::Leader => self.hear_vote(sender, granted),
+        match self.member.role {
+            Role::Follower => Ok(self),
+            Role::Candidate => self.hear_vote(sender, granted).lead_if_won(),
+            Role::Preparing | Role::Leader => Ok(self.hear_vote(sender, granted)),
         }
     }
 
     /// Keeps who granted its vote.
-    fn hear_vote(&mut self, sender: MemberId, granted: bool)
-        ensures { Becomes (λ n. node_hearing (vote_heard n sender granted) n) self.old self.new }
+    fn hear_vote(self, sender: MemberId, granted: bool) -> Act
+        ensures acts { Acts (λ n. stays (node_hearing (vote_heard n sender granted) n)) self result }
+        ensures rest { result.member ≡ record self.member { heard = result.member.heard } }
     {
-        if granted {
-            self.voters.add(sender);
-        }
+        let mut act = self;
+        act.member.heard.vote(sender, granted);
+        act
     }
 
     /// Leads the term where it has won.
-    fn lead_if_won(&mut self)
-        ensures { Becomes (λ n. (act_of_count n).node) self.old self.new }
+    fn lead_if_won(self) -> Result<Act, OutOfMemory>
+        requires ranged { IsRangedMember self.member }
+        requires candidate { self.member.role ≡ Candidate }
+        requires begun { 1 ≤ self.member.store.kept.term }
+        ensures { IfOk result (Acts act_of_count self) }
     {
-        if self.has_won() {
-            self.become_leader();
+        if !self.member.has_won() {
+            return Ok(self);
         }
+        self.lead()
     }
+}
+
+impl Member {
+    ghost use Rattle.node_core.specs.Acting.{IsNode};
+    ghost use Rattle.world_model.specs.Rules.VoteReply.{has_won};
 
     /// Whether more than half of the members voted for it, itself among them.
     fn has_won(&self) -> bool
-        ensures { (n : Node) → Stands self.now n → result ≡ has_won n }
+        ensures { (n : Node) → IsNode self.now n → result ≡ has_won n }
     {
-        let votes = self.voters.count(self.shape.members()) + 1;
-        votes >= usize::from(self.shape.majority())
-    }
-
-    /// Leads its term.
-    fn become_leader(&mut self)
-        ensures { Becomes leading_node self.old self.new }
-    {
-        self.role = Role::Leader;
-        self.hint = Some(self.me);
+        self.heard.votes() >= self.shape.majority()
     }
 }

@@ -1,48 +1,95 @@
--- What rules share: a node that stays in range, and what it says to one member or to all others.
-use Rattle.std.proofs.Common.{◌≡◌, ◌≢◌, ℕ, ◌<◌, ◌≤◌, ◌==◌, true, not, List, [], ◌∷◌, sym, subst, ◌∙◌, arith}
+-- What rules share: a node that stays in range, records that can be applied and are spelled, and what it says to one member or to
+-- all others.
+use Rattle.std.proofs.Common.{◌≡◌, ◌≢◌, ℕ, ◌<◌, ◌≤◌, ◌==◌, true, not, List, [], ◌∷◌, length, map, sym, subst, ◌∙◌, arith}
 use Rattle.std.specs.List.{All}
 use Rattle.std.proofs.lemmas.Bool.{not-true, eqb-false}
 use Rattle.std.proofs.lemmas.List.Elements.{All-nil, All-cons, All-append, All-filter, All-from_get_or, All-map, All-weaker, filter_passes}
 use Rattle.std.proofs.lemmas.List.FromFn.{length-range_with_len, get_or-range_with_len}
-use Rattle.craft_base.specs.Shape.{Shape, members_of}
+use Rattle.craft_base.specs.Shape.{Shape, IsShape, members_of}
+use Rattle.craft_base.specs.Knowledge.{members}
+use Rattle.entry_frames.specs.Bodies.{HaveSpellings}
+use Rattle.entry_frames.specs.Durable.{CanApplyAll, after}
 use Rattle.entry_frames.specs.Formats.{Fits}
 use Rattle.entry_frames.specs.Kinds.{peer_kind}
 use Rattle.entry_frames.specs.MessageFields.{body_fields}
+use Rattle.entry_frames.specs.Records.{Record}
 use Rattle.entry_frames.specs.declared.message.Message.{Message}
 use Rattle.entry_frames.specs.declared.peer.Peer.{Peer}
-use Rattle.craft_base.specs.Knowledge.{members}
+use Rattle.entry_frames.proofs.Durable.{can_apply-append}
+use Rattle.entry_frames.proofs.Stored.{records_kept}
 use Rattle.world_model.specs.Nodes.{Node, Volatile}
-use Rattle.world_model.specs.Ranges.{IsMember, NodeInRange, HasSpelling}
-use Rattle.world_model.specs.Rules.Acts.{Act, followed_by, keeping, message_of, messages_to_others, others, sending, stays}
-use Rattle.craft_base.specs.Shape.{IsShape}
+use Rattle.world_model.specs.Ranges.{IsMember, NodeInRange, HasSpelling, KnowsInRange}
+use Rattle.world_model.specs.Rules.Acts.{Act, IsRecorded, followed_by, keeping, message_of, messages_to_others, others, recording_all, sending, stays}
 use Rattle.world_model.proofs.Frames.{message_fits}
+use Rattle.world_model.proofs.Ranges.Records.{spelled-append}
 
--- a rule leaves its node in range, and what it sends has a spelling
-pub record ActInRange (shape : Shape) (member : ℕ) (act : Act) : Type 0 where
+-- a rule leaves its node in range; its records can be applied to the node before it and have spellings, and so has what it sends
+pub record ActInRange (shape : Shape) (member : ℕ) (n : Node) (act : Act) : Type 0 where
   pub node : NodeInRange shape member act.node
+  pub applies : CanApplyAll shape n.durable act.records
+  pub written : HaveSpellings shape.need act.records
   pub sends : All (HasSpelling shape) act.sends
 
 module _ {shape : Shape} {member : ℕ} {n : Node} (a : NodeInRange shape member n) where
-  -- what a crash loses has no range
-  pub in_volatile : (v : Volatile) → NodeInRange shape member (record n { volatile = v })
-  in_volatile v = record { of_shape = a.of_shape; me = a.me; is_member = a.is_member; term = a.term; log = a.log; commit = a.commit }
+  -- what a crash loses has no range but in what is known
+  pub in_volatile : (v : Volatile) → KnowsInRange v.role (length n.durable.log) v.first v.heard → NodeInRange shape member (record n { volatile = v })
+  in_volatile v knows = record { of_shape = a.of_shape; me = a.me; is_member = a.is_member; durable = a.durable; knows = knows }
 
-  pub stays_in_range : ActInRange shape member (stays n)
-  stays_in_range = record { node = a; sends = All-nil (HasSpelling shape) }
+  pub stays_in_range : ActInRange shape member n (stays n)
+  stays_in_range = record { node = a; applies = tt; written = tt; sends = All-nil (HasSpelling shape) }
 
-module _ {shape : Shape} {member : ℕ} where
-  pub keeping_in_range : (v : Volatile) (act : Act) → ActInRange shape member act → ActInRange shape member (keeping v act)
-  keeping_in_range v act a = record { node = in_volatile a.node v; sends = a.sends }
+  -- what records leave, with that as what a crash loses
+  pub enters_in_range :
+      (records : List Record) (v : Volatile) → CanApplyAll shape n.durable records → HaveSpellings shape.need records →
+      KnowsInRange v.role (length (after n.durable records).log) v.first v.heard → ActInRange shape member n (keeping v (recording_all records (stays n)))
+  enters_in_range records v applies written knows = record {
+    node = record {
+      of_shape = a.of_shape;
+      me = a.me;
+      is_member = a.is_member;
+      durable = records_kept shape n.durable records a.durable applies written;
+      knows = knows;
+    };
+    applies = applies;
+    written = written;
+    sends = All-nil (HasSpelling shape);
+  }
 
-  pub sending_in_range : (sends : List Message) (act : Act) → All (HasSpelling shape) sends → ActInRange shape member act → ActInRange shape member (sending sends act)
-  sending_in_range sends act fit a = record { node = a.node; sends = All-append (HasSpelling shape) act.sends sends a.sends fit }
+  pub records_in_range :
+      (records : List Record) → CanApplyAll shape n.durable records → HaveSpellings shape.need records →
+      KnowsInRange n.volatile.role (length (after n.durable records).log) n.volatile.first n.volatile.heard → ActInRange shape member n (recording_all records (stays n))
+  records_in_range records applies written knows = enters_in_range records n.volatile applies written knows
+
+module _ {shape : Shape} {member : ℕ} {n : Node} where
+  pub keeping_in_range :
+      (v : Volatile) (act : Act) → KnowsInRange v.role (length act.node.durable.log) v.first v.heard → ActInRange shape member n act →
+      ActInRange shape member n (keeping v act)
+  keeping_in_range v act knows a = record { node = in_volatile a.node v knows; applies = a.applies; written = a.written; sends = a.sends }
+
+  pub sending_in_range :
+      (sends : List Message) (act : Act) → All (HasSpelling shape) sends → ActInRange shape member n act → ActInRange shape member n (sending sends act)
+  sending_in_range sends act fit a = record {
+    node = a.node;
+    applies = a.applies;
+    written = a.written;
+    sends = All-append (HasSpelling shape) act.sends sends a.sends fit;
+  }
 
   pub followed_in_range :
-      (act : Act) (rule : Node → Act) → ActInRange shape member act → ActInRange shape member (rule act.node) → ActInRange shape member (followed_by act rule)
-  followed_in_range act rule first next = record {
+      (act : Act) (rule : Node → Act) → IsRecorded n act → ActInRange shape member n act → ActInRange shape member act.node (rule act.node) →
+      ActInRange shape member n (followed_by act rule)
+  followed_in_range act rule is first next = record {
     node = next.node;
+    applies =
+        can_apply-append shape n.durable act.records (rule act.node).records first.applies
+        (subst (λ d. CanApplyAll shape d (rule act.node).records) (sym is) next.applies);
+    written = spelled-append shape.need act.records (rule act.node).records first.written next.written;
     sends = All-append (HasSpelling shape) act.sends (rule act.node).sends first.sends next.sends;
   }
+
+  -- what a crash loses doesn't tell what can be recorded
+  pub before_in_range : (v : Volatile) (act : Act) → ActInRange shape member (record n { volatile = v }) act → ActInRange shape member n act
+  before_in_range v act a = record { node = a.node; applies = a.applies; written = a.written; sends = a.sends }
 
 members_are : (shape : Shape) → All (IsMember shape) (members shape)
 members_are shape =
@@ -60,7 +107,7 @@ module _ {shape : Shape} (is : IsShape shape) {member : ℕ} {n : Node} (a : Nod
         sender = subst (IsMember shape) (sym a.me) a.is_member;
         receiver = is_member;
         apart = λ e. apart (sym e ∙ a.me);
-        term = (begun, a.term);
+        term = (begun, a.durable.stored.term_most);
       }) fits
 
   pub one_message_fits :
@@ -76,9 +123,15 @@ module _ {shape : Shape} (is : IsShape shape) {member : ℕ} {n : Node} (a : Nod
       let apart : All (λ member. not (member == n.me) ≡ true) (others n) = filter_passes (λ member. not (member == n.me)) (members n.shape) in
       λ i d lt. (members' i d lt, λ e. eqb-false _ _ (not-true _ (apart i d lt)) (e ∙ sym a.me))
 
+  -- what it says to each other member
+  pub to_others_fit :
+      (body : ℕ → Peer) → ((receiver : ℕ) → Fits (body_fields shape.need n.durable.term (peer_kind (body receiver))) (body receiver)) →
+      All (HasSpelling shape) (map (λ receiver. message_of n (body receiver) receiver) (others n))
+  to_others_fit body fits =
+      All-map (HasSpelling shape) (λ receiver. message_of n (body receiver) receiver) (others n)
+      (All-weaker (λ receiver. IsMember shape receiver × (receiver ≢ member)) (λ receiver. HasSpelling shape (message_of n (body receiver) receiver))
+      (λ receiver to. message_of_fits (body receiver) receiver to.0 to.1 (fits receiver)) (others n) others_are)
+
   pub messages_to_others_fit :
       (body : Peer) → Fits (body_fields shape.need n.durable.term (peer_kind body)) body → All (HasSpelling shape) (messages_to_others n body)
-  messages_to_others_fit body fits =
-      All-map (HasSpelling shape) (message_of n body) (others n)
-      (All-weaker (λ receiver. IsMember shape receiver × (receiver ≢ member)) (λ receiver. HasSpelling shape (message_of n body receiver))
-      (λ receiver to. message_of_fits body receiver to.0 to.1 fits) (others n) others_are)
+  messages_to_others_fit body fits = to_others_fit (λ receiver. body) (λ receiver. fits)

@@ -10,7 +10,10 @@ use Rattle.entry_frames.specs.declared.peer.Peer.TheVariants as peers
 use Rattle.entry_frames.specs.declared.kind.PeerKind.TheVariants as peer_kinds
 use Rattle.entry_frames.specs.MessageFields.{body_fields, least_with, greatest_with}
 use Rattle.entry_frames.specs.Logs.{last_index, last_term}
-use Rattle.world_model.specs.Ranges.{IsTerm, LogInRange}
+use Rattle.entry_frames.specs.Stored.{IsStored}
+use Rattle.entry_frames.proofs.Stored.{terms_in_range}
+use Rattle.craft_base.specs.Shape.{Shape}
+use Rattle.world_model.specs.Ranges.{IsTerm}
 use Rattle.world_model.proofs.Frames.{fits_within}
 
 pub reply_fits : (need term : ℕ) (granted : Bool) → Fits (body_fields need term peer_kinds.VoteReply) (peers.VoteReply granted)
@@ -36,13 +39,15 @@ last_fits term last is some short =
     rw above (fits_within U64 1 last_place last (omega (arith, short)) some short)
 
 -- the end of a log, as a candidate shows it
-pub request_fits : (need term : ℕ) (log : List Entry) → LogInRange log → Fits (body_fields need term peer_kinds.Vote) (peers.Vote (last_term log) (last_index log))
-request_fits need term [] r = (
+pub request_fits :
+    {shape : Shape} {low : ℕ} (need term : ℕ) (log : List Entry) → IsStored shape low log → length log ≤ last_place →
+    Fits (body_fields need term peer_kinds.Vote) (peers.Vote (last_term log) (last_index log))
+request_fits need term [] stored short = (
   fits_within U64 0 greatest 0 (omega arith) (omega arith) (omega arith),
   (fits_within U64 0 0 0 (omega arith) (omega arith) (omega arith), refl),
 )
-request_fits need term (entry ∷ log) r =
-    let ends : IsTerm (last_term (entry ∷ log)) = ends_in_term entry log r.terms in (
+request_fits need term (entry ∷ log) stored short =
+    let ends : IsTerm (last_term (entry ∷ log)) = ends_in_term entry log (terms_in_range stored) in (
       fits_within U64 0 greatest (last_term (entry ∷ log)) (omega (arith, ends.1)) (omega arith) ends.1,
-      (last_fits (last_term (entry ∷ log)) (length (entry ∷ log)) ends (omega arith) r.short, refl),
+      (last_fits (last_term (entry ∷ log)) (length (entry ∷ log)) ends (omega arith) short, refl),
     )

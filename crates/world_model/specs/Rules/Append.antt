@@ -10,13 +10,12 @@ use Rattle.craft_base.specs.declared.command.Op.{Op}
 use Rattle.craft_base.specs.declared.command.Op.TheVariants as ops
 use Rattle.entry_frames.specs.Logs.{term_at}
 use Rattle.entry_frames.specs.Records.{Record, Add, Cut, Whole}
-use Rattle.entry_frames.specs.declared.peer.Peer.{Peer}
 use Rattle.entry_frames.specs.declared.peer.Peer.TheVariants as peers
 use Rattle.entry_frames.specs.declared.role.Role.{Role}
 use Rattle.entry_frames.specs.declared.role.Role.TheVariants.{Follower, Candidate, Preparing, Leader}
 use Rattle.world_model.specs.Nodes.{Node, Volatile}
 use Rattle.world_model.specs.Quorums.{is_whole}
-use Rattle.world_model.specs.Rules.Acts.{Act, stays, recording_all, keeping, sending, followed_by, message_of}
+use Rattle.world_model.specs.Rules.Acts.{Act, stays, recording_all, sending, followed_by, message_of}
 use Rattle.world_model.specs.Rules.Applying.{act_of_commit}
 use Rattle.world_model.specs.Rules.Terms.{refusal}
 

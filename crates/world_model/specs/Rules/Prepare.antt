@@ -1,6 +1,6 @@
 -- Prepare: a candidate that has won its term leads it. It adds an empty entry of the term, since by counting it commits entries of
 -- its own term alone, and all before it with them.
-use Rattle.std.specs.Prelude.{ℕ, ◌+◌, List, [], length, Some, if◌then◌else◌, nat_lt}
+use Rattle.std.specs.Prelude.{ℕ, ◌+◌, [], length, Some, if◌then◌else◌, nat_lt}
 use Rattle.craft_base.specs.declared.command.Entry.{Entry}
 use Rattle.craft_base.specs.declared.command.Form.TheVariants as forms
 use Rattle.craft_base.specs.declared.command.Op.TheVariants as ops

@@ -1,5 +1,5 @@
 -- What a leader sends to a member: a stretch of its log, from where the member is known to lack something.
-use Rattle.std.specs.Prelude.{ℕ, zero, suc, ◌-◌, min, List, [], ◌∷◌, drop, map, Bool, not, ◌&&◌, if◌then◌else◌, nat_le, Option, None, Some}
+use Rattle.std.specs.Prelude.{ℕ, zero, suc, ◌-◌, min, List, [], ◌∷◌, drop, map, not, ◌&&◌, if◌then◌else◌, nat_le, Option, None, Some}
 use Rattle.std.specs.List.{find}
 use Rattle.craft_base.specs.Knowledge.{Heard, held_form, next_index}
 use Rattle.craft_base.specs.declared.command.Entry.{Entry}
@@ -59,6 +59,9 @@ append_to n member = message_of n (append_from n (start_of n member)) member
 -- to each other member, in order
 abbrev pub appends_to_others : Node → List Message
 appends_to_others n = map (append_to n) (others n)
+
+abbrev pub act_of_saying : Node → Act
+act_of_saying n = sending (appends_to_others n) (stays n)
 
 -- only where there is an entry to send
 abbrev pub append_with : Node → ℕ → List Entry → List Message

@@ -1,4 +1,5 @@
--- Tick: a follower or a candidate that has heard nothing for long enough stands for election; a node that has won counts a beat.
+-- Tick: a follower or a candidate that has heard nothing for long enough stands for election; a node that has won counts a beat,
+-- and sends to all others where it leads.
 use Rattle.std.specs.Prelude.{ℕ, ◌+◌, ◌%◌, min, List, [], None, Some, Bool, ◌&&◌, if◌then◌else◌, nat_le, nat_lt}
 use Rattle.entry_frames.specs.Limits.{greatest}
 use Rattle.entry_frames.specs.Logs.{last_index, last_term}
@@ -10,6 +11,7 @@ use Rattle.entry_frames.specs.declared.role.Role.TheVariants.{Follower, Candidat
 use Rattle.craft_base.specs.Knowledge.{Beat}
 use Rattle.world_model.specs.Nodes.{Node, node_hearing}
 use Rattle.world_model.specs.Rules.Acts.{Act, stays, recording, keeping, sending, messages_to_others}
+use Rattle.world_model.specs.Rules.Say.{act_of_saying}
 
 -- whether that many quiet ticks are enough, by a word that the clock chooses, and a higher term is left
 abbrev pub is_due : ℕ → ℕ → ℕ → Bool
@@ -38,9 +40,9 @@ act_of_waiting word n = if is_due n.volatile.quiet word n.durable.term then act_
 abbrev pub act_of_tick_as : Role → ℕ → Node → Act
 act_of_tick_as Follower word n = act_of_waiting word (waiting_node n)
 act_of_tick_as Candidate word n = act_of_waiting word (waiting_node n)
--- a node that has won counts a beat
+-- a node that has won counts a beat, and a leader sends what each other member lacks
 act_of_tick_as Preparing word n = stays (node_hearing Beat n)
-act_of_tick_as Leader word n = stays (node_hearing Beat n)
+act_of_tick_as Leader word n = act_of_saying (node_hearing Beat n)
 
 abbrev pub act_of_tick : ℕ → Node → Act
 act_of_tick word n = act_of_tick_as n.volatile.role word n

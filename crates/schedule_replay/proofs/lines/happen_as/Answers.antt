@@ -14,10 +14,15 @@ pub to-member-requires : goal.to-member-requires
 to-member-requires c =
     let w = c.requires.stands.0 in
     let p = c.requires.stands.1 in
-    no_answer c.in-Some.view.frame (spelled_at c.args.shape.now w.sent p.in_range.sent _ c.in-Some.view.frame (c.in-Some.ensures w.sent p.in_range.sent p.sent_are)).0
+    no_answer c.in-Some.view.frame (spelled_at c.args.shape.now w.sent p.in_range.sent _ c.in-Some.view.frame (c.in-Some.ensures.sent w.sent p.in_range.sent p.sent_are)).0
 
 pub act_at-requires-in-Some-clause-action : goal.act_at-requires-in-Some-clause-action
 act_at-requires-in-Some-clause-action c =
     let w = c.requires.stands.0 in
-    let p = c.requires.stands.1 in
-    ((spelled_at c.args.shape.now w.sent p.in_range.sent _ c.in-Some.view.frame (c.in-Some.ensures w.sent p.in_range.sent p.sent_are), sym c.to-member.ensures), c.requires.ending)
+    let p = c.requires.stands.1 in (
+      record {
+        ranged = (spelled_at c.args.shape.now w.sent p.in_range.sent _ c.in-Some.view.frame (c.in-Some.ensures.sent w.sent p.in_range.sent p.sent_are), sym c.to-member.ensures);
+        read = c.in-Some.ensures.read;
+      },
+      c.requires.ending,
+    )

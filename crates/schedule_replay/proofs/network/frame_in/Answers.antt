@@ -13,8 +13,8 @@ unreachable-requires c =
     let sent = subst (IsSent c.args.shape.now) (sym c.in_ok-frame.ensures.lookup.1) (c.requires c.saturating_sub-position.result c.in_ok-frame.frame.now within) in
     is_no_fault sent.0 c.in_default.field-0 (c.in_default.ensures.only sent.0 sent.1.1 (c.as_bytes.ensures ∙ sent.2))
 
-pub returns : goal.returns
-returns c = λ ms all are.
+pub returns-clause-sent : goal.returns-clause-sent
+returns-clause-sent c = λ ms all are.
     let frames = c.args.sent.now in
     let position = c.saturating_sub-position.result in
     let within : position < length frames = ltb-true position (length frames) (sym c.in_ok-frame.ensures.lookup.0) in

@@ -10,5 +10,5 @@ returns c = λ d has.
     let runs = c.in_ok-shell.ensures d has in record {
       has = subst (λ disk. HasState c.args.shape.now c.args.me disk d) (sym c.give_back.ensures.disk)
           (record { steady = runs.steady; opens = holds_opens shell.disk.told.now.bytes shell.gate (owned c.args.shape.now c.args.me) d runs.holds });
-      commit = c.commit-commit.ensures ∙ ap (λ kept. kept.commit) (c.store.ensures.kept ∙ ap (λ k. k.durable) (c.core.ensures.core ∙ runs.core));
+      commit = c.commit-commit.ensures ∙ ap (λ kept. kept.commit) (c.store.ensures.kept ∙ ap (λ k. k.durable) c.core.ensures.core ∙ runs.core.of_durable);
     }

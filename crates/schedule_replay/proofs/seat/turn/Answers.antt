@@ -14,3 +14,6 @@ returns-in-Ok-clause-runs c = λ shape me d v runs.
     let new = c.in-Ok.stepped.0 in
     turned_runs shape me c.args.shell new d v (turns.turn event n).node runs (e.stepped n runs.core).node e.same.0 e.same.1
     (made_keeps_orders c.args.shell.disk.told.history new.disk.told.history (step_calls c.args.shell.gate (body_of_turn c.args.shell.core event n)) (e.calls n runs.core)) e.kept
+
+pub returns-in-Ok-clause-told : goal.returns-in-Ok-clause-told
+returns-in-Ok-clause-told c = λ shape me d v runs. (c.in-Ok.ensures.stepped (node_with shape me d v) runs.core).outputs

@@ -6,8 +6,9 @@ use Rattle.entry_frames.specs.Formats.{Fits}
 use Rattle.entry_frames.specs.Logs.{term_at}
 use Rattle.entry_frames.specs.Records.{Add}
 use Rattle.entry_frames.specs.Bulk.{bulk_of}
-use Rattle.log_store.specs.Stores.{AreEntries}
-use Rattle.log_store.proofs.Entries.{bulk-append, bulk_room, pushed}
+use Rattle.entry_frames.specs.Stored.{AreEntries}
+use Rattle.entry_frames.proofs.Stored.{pushed}
+use Rattle.log_store.proofs.Entries.{bulk-append, bulk_room}
 use Rattle.log_store.proofs.store.LogStore.append.Goals as goal
 
 pub overflow_add-store : goal.overflow_add-store

@@ -1,7 +1,8 @@
 use Rattle.std.proofs.Common.{◌-◌, ◌<◌, ◌∙◌, ap, sym, subst, take, arith}
 use Rattle.entry_frames.specs.Bulk.{bulk_of}
-use Rattle.log_store.specs.Stores.{AreEntries}
-use Rattle.log_store.proofs.Entries.{bulk_room, cut_bulk, cut_small, taken}
+use Rattle.entry_frames.specs.Stored.{AreEntries}
+use Rattle.entry_frames.proofs.Stored.{taken}
+use Rattle.log_store.proofs.Entries.{bulk_room, cut_bulk, cut_small}
 use Rattle.log_store.proofs.store.LogStore.cut_from.Goals as goal
 
 pub sum_of-requires : goal.sum_of-requires

@@ -2,8 +2,9 @@ use Rattle.std.proofs.Common.{◌≡◌, ◌-◌, ◌++◌, ◌∙◌, length, t
 use Rattle.entry_frames.specs.Durable.{LacksValue, complete_at}
 use Rattle.entry_frames.specs.Logs.{entry_at}
 use Rattle.entry_frames.specs.Bulk.{bulk_of}
-use Rattle.log_store.specs.Stores.{AreEntries}
-use Rattle.log_store.proofs.Completing.{complete_bulk, complete_entries, complete_length, written}
+use Rattle.entry_frames.specs.Stored.{AreEntries}
+use Rattle.entry_frames.proofs.Stored.{complete_entries, complete_length}
+use Rattle.log_store.proofs.Completing.{complete_bulk, written}
 use Rattle.log_store.proofs.store.LogStore.make_whole.Goals as goal
 
 pub invariant_of-store : goal.invariant_of-store

@@ -1,6 +1,6 @@
 use Rattle.std.proofs.Common.{◌≤◌, ap, subst, arith}
 use Rattle.entry_frames.specs.Limits.{greatest}
-use Rattle.log_store.proofs.Entries.{most_of, no_earlier, risen}
+use Rattle.entry_frames.proofs.Stored.{most_of, no_earlier, risen}
 use Rattle.log_store.proofs.store.LogStore.set_term.Goals as goal
 
 pub invariant_of-self : goal.invariant_of-self

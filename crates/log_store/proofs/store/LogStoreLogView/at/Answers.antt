@@ -2,7 +2,7 @@ use Rattle.std.proofs.Common.{◌∙◌, ap, sym, subst}
 use Rattle.entry_frames.specs.Entries.{entry_fields}
 use Rattle.entry_frames.specs.Formats.{Fits}
 use Rattle.entry_frames.specs.Logs.{entry_at}
-use Rattle.log_store.proofs.Entries.{fits_at}
+use Rattle.entry_frames.proofs.Stored.{fits_at}
 use Rattle.log_store.proofs.store.LogStoreLogView.at.Goals as goal
 
 pub of-requires-clause-fits : goal.of-requires-clause-fits

@@ -1,8 +1,7 @@
-use Rattle.std.proofs.Common.{refl, sym, ap, subst}
+use Rattle.std.proofs.Common.{refl, sym, subst}
 use Rattle.std.specs.Prelude.{IsTrue}
 use Rattle.node_shell.specs.Opening.{OpensAsBefore, StillOpens}
-use Rattle.node_shell.specs.Standing.{owner_of}
-use Rattle.node_shell.proofs.Opening.{begins_less, kept_file, only_file, opens_as_before, still_opened}
+use Rattle.node_shell.proofs.Opening.{begins_less, same_owned, kept_file, only_file, opens_as_before, still_opened}
 use Rattle.synced_log.specs.Crashes.{BeginsWithSync}
 use Rattle.synced_log.specs.Journal.{owned}
 use Rattle.synced_log.specs.Standing.{Stays}
@@ -43,7 +42,7 @@ invariant_of-result g c =
     record {
       node = (started shape c.args.me core.durable, c.in-Ok-boot.ensures.started);
       kept = kept_file shape c.args.me c.in-Ok.opened.1 core.durable e.shape c.in-Ok-boot.ensures.replayed (d.seen old) (d.seen journal.disk) journal.gate core e.opened e.told.same_seen
-          (ap (λ k. owner_of k) c.in-Ok-boot.ensures.started) refl;
+          (same_owned c.in-Ok-boot.core (started shape c.args.me c.in-Ok-boot.core.durable) c.in-Ok-boot.ensures.started) refl;
       durable = λ told. e.durable (subst IsTrue e.told.same_crash told);
     }
 
@@ -65,4 +64,4 @@ returns-clause-kept g c =
     let d = g.D.Disk in
     let e = c.in-Ok.ensures in
     kept_file c.args.shape.now c.args.me c.in-Ok.opened.1 c.in-Ok-boot.core.durable e.shape c.in-Ok-boot.ensures.replayed (d.seen c.args.disk) (d.seen c.in-Ok.opened.0.disk) c.in-Ok.opened.0.gate
-    c.in-Ok-boot.core e.opened e.told.same_seen (ap (λ k. owner_of k) c.in-Ok-boot.ensures.started) refl
+    c.in-Ok-boot.core e.opened e.told.same_seen (same_owned c.in-Ok-boot.core (started c.args.shape.now c.args.me c.in-Ok-boot.core.durable) c.in-Ok-boot.ensures.started) refl

@@ -1,0 +1,11 @@
+-- What a run keeps lists of: what was proposed, removed and committed.
+pub mod Standing
+pub mod Kept
+pub mod Cutting
+pub mod Taken
+pub mod Plain
+pub mod Sent
+pub mod Leading
+pub mod Committed
+pub mod Append
+pub mod Turn

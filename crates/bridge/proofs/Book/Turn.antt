@@ -1,0 +1,187 @@
+-- A turn is bridged, and what it proposes, removes and commits agrees with where its moves lead.
+use Rattle.std.proofs.Common.{◌≡◌, ℕ, nat_lt, true, false, le_refl, Bool, Option, None, Some, List, [], ◌∷◌, refl, sym, subst}
+use Rattle.std.specs.List.{All}
+use Rattle.std.proofs.lemmas.Bool.{cond_both}
+use Rattle.craft_base.specs.Shape.{IsShape, Shape}
+use Rattle.craft_base.specs.Knowledge.{Beat, Matched}
+use Rattle.entry_frames.specs.MessageParts.{receiver_byte}
+use Rattle.entry_frames.specs.Logs.{last_index, last_term}
+use Rattle.entry_frames.specs.declared.message.Message.{Message}
+use Rattle.entry_frames.specs.declared.message.Message.TheVariants as messages
+use Rattle.entry_frames.specs.declared.peer.Peer.{Peer}
+use Rattle.entry_frames.specs.declared.peer.Peer.TheVariants as peers
+use Rattle.entry_frames.specs.declared.role.Role.{Role}
+use Rattle.entry_frames.specs.declared.role.Role.TheVariants.{Follower, Candidate, Preparing, Leader}
+use Rattle.world_model.specs.Nodes.{Node, node_hearing}
+use Rattle.world_model.specs.Rules.Acts.{Act, followed_by, keeping, message_of, sending, stays}
+use Rattle.world_model.specs.Rules.Matched.{log_heard}
+use Rattle.world_model.specs.Rules.Prepare.{act_of_leading}
+use Rattle.world_model.specs.Rules.Say.{act_of_saying}
+use Rattle.world_model.specs.Rules.Terms.{act_of_higher_term, act_of_lower_term, act_of_term}
+use Rattle.world_model.specs.Rules.Tick.{act_of_candidacy, act_of_election, act_of_tick, act_of_tick_as, act_of_waiting, is_due, waiting_node}
+use Rattle.world_model.specs.Rules.Vote.{act_of_grant, act_of_vote_from, act_of_vote_refusal, act_of_vote_request, is_grantor}
+use Rattle.world_model.specs.Rules.VoteReply.{act_of_count, act_of_vote_reply_as, has_won, vote_heard}
+use Rattle.world_model.specs.Traces.{Proposal}
+use Rattle.world_model.specs.Turn.{act_of_message, act_of_peer}
+use Rattle.world_model.proofs.Turns.{caught_up}
+use Rattle.protocol.specs.Growth.{Grows}
+use Rattle.protocol.specs.History.{History}
+use Rattle.protocol.specs.Moves.{Reached}
+use Rattle.protocol.proofs.Runs.{moves_trans}
+use Rattle.bridge.specs.Agreement.{MessageAgrees, NodeAgrees, SaidAgrees}
+use Rattle.bridge.specs.Bridges.{ActBridged, ActTraced, TurnBridged}
+use Rattle.bridge.specs.Traced.{AllStand, MessageStands, PeerStands, ProposalAgrees}
+use Rattle.bridge.proofs.Book.Append.{append_as_turned}
+use Rattle.bridge.proofs.Book.Committed.{matched_as_traced, refused_as_traced}
+use Rattle.bridge.proofs.Book.Kept.{proposals_stay}
+use Rattle.bridge.proofs.Book.Leading.{leading_traced}
+use Rattle.bridge.proofs.Book.Plain.{IsTraced, plain_traced, silent_traced, stays_traced, turned}
+use Rattle.bridge.proofs.Book.Sent.{appends_stand, one_stands, stale_replies_stand, to_others_stand}
+use Rattle.bridge.proofs.Facts.{hearing_agrees, message_stays}
+use Rattle.bridge.proofs.Rules.Matched.{matched_bridged, refused_bridged}
+use Rattle.bridge.proofs.Rules.Terms.{lower_term_bridged, term_bridged}
+use Rattle.bridge.proofs.Rules.Tick.{tick_bridged}
+use Rattle.bridge.proofs.Rules.Vote.{vote_request_bridged}
+use Rattle.bridge.proofs.Rules.VoteReply.{vote_reply_bridged, won_allowed}
+use Rattle.bridge.proofs.Steps.{reached_grows, then_moved, unmoved_stays}
+
+-- ---- a tick
+
+module _ {shape : Shape} {g : History} {member : ℕ} {book : List Proposal} (n : Node) (stand : AllStand book 1 n.durable.log) where
+  waiting_traced : (word : ℕ) → IsTraced shape g member n.durable book (act_of_waiting word n)
+  waiting_traced word =
+      cond_both (is_due n.volatile.quiet word n.durable.term) (act_of_election n) (stays n) (IsTraced shape g member n.durable book)
+      (λ due.
+      plain_traced n.durable stand (act_of_election n) refl (λ event. refl) (λ event. refl) (λ event. refl)
+      (λ more log. to_others_stand more (act_of_candidacy n).node (peers.Vote (last_term n.durable.log) (last_index n.durable.log)) tt))
+      (λ early. stays_traced n.durable stand n refl)
+
+  saying_traced : IsTraced shape g member n.durable book (act_of_saying n)
+  saying_traced = silent_traced n.durable stand (act_of_saying n) refl refl (λ more log. appends_stand more n log)
+
+tick_as_traced :
+    {shape : Shape} {g : History} {member : ℕ} {book : List Proposal} (role : Role) (word : ℕ) (n : Node) → AllStand book 1 n.durable.log →
+    IsTraced shape g member n.durable book (act_of_tick_as role word n)
+tick_as_traced Follower word n stand = waiting_traced (waiting_node n) stand word
+tick_as_traced Candidate word n stand = waiting_traced (waiting_node n) stand word
+tick_as_traced Preparing word n stand = stays_traced n.durable stand (node_hearing Beat n) refl
+tick_as_traced Leader word n stand = saying_traced (node_hearing Beat n) stand
+
+pub tick_turned :
+    {shape : Shape} {g : History} {member : ℕ} {n : Node} {book : List Proposal} (word : ℕ) → Reached shape.faults g → NodeAgrees shape g member n →
+    AllStand book 1 n.durable.log → TurnBridged shape g book member n.durable (act_of_tick word n)
+tick_turned {n = n} word reached a stand = turned (tick_bridged word reached a) (tick_as_traced n.volatile.role word n stand)
+
+-- ---- a message in the node's own term
+
+module _ {shape : Shape} {g : History} {member : ℕ} {book : List Proposal} (n : Node) (stand : AllStand book 1 n.durable.log) where
+  grant_traced : (candidate : ℕ) (vote : Option ℕ) → IsTraced shape g member n.durable book
+      (sending (message_of n (peers.VoteReply true) candidate ∷ []) (keeping (record n.volatile { quiet = 0 }) (act_of_vote_from vote candidate n)))
+  grant_traced candidate None =
+      plain_traced n.durable stand _ refl (λ event. refl) (λ event. refl) (λ event. refl)
+      (λ more log. one_stands more (message_of n (peers.VoteReply true) candidate) tt)
+  grant_traced candidate (Some voted) =
+      plain_traced n.durable stand _ refl (λ event. refl) (λ event. refl) (λ event. refl)
+      (λ more log. one_stands more (message_of n (peers.VoteReply true) candidate) tt)
+
+  vote_request_traced : (candidate last_of last : ℕ) → IsTraced shape g member n.durable book (act_of_vote_request n candidate last_of last)
+  vote_request_traced candidate last_of last =
+      cond_both (is_grantor n candidate last_of last) (act_of_grant candidate n) (act_of_vote_refusal candidate n) (IsTraced shape g member n.durable book)
+      (λ granted. grant_traced candidate n.durable.vote)
+      (λ refused. silent_traced n.durable stand (act_of_vote_refusal candidate n) refl refl
+      (λ more log. one_stands more (message_of n (peers.VoteReply false) candidate) tt))
+
+  count_traced :
+      Reached shape.faults g → NodeAgrees shape g member n → All (ProposalAgrees g) book → n.volatile.role ≡ Candidate →
+      IsTraced shape g member n.durable book (act_of_count n)
+  count_traced reached a proposed stands =
+      cond_both (has_won n) (act_of_leading n) (stays n) (IsTraced shape g member n.durable book)
+      (λ won. leading_traced reached a (won_allowed reached a stands won) stand proposed) (λ waits. stays_traced n.durable stand n refl)
+
+vote_reply_as_traced :
+    {shape : Shape} {g : History} {member : ℕ} {book : List Proposal} (role : Role) (sender : ℕ) (granted : Bool) (n : Node) →
+    AllStand book 1 n.durable.log → Reached shape.faults g → NodeAgrees shape g member (node_hearing (vote_heard n sender granted) n) →
+    All (ProposalAgrees g) book → n.volatile.role ≡ role → IsTraced shape g member n.durable book (act_of_vote_reply_as role n sender granted)
+vote_reply_as_traced Follower sender granted n stand reached a proposed e = stays_traced n.durable stand n refl
+vote_reply_as_traced Candidate sender granted n stand reached a proposed e =
+    count_traced (node_hearing (vote_heard n sender granted) n) stand reached a proposed e
+vote_reply_as_traced Preparing sender granted n stand reached a proposed e =
+    stays_traced n.durable stand (node_hearing (vote_heard n sender granted) n) refl
+vote_reply_as_traced Leader sender granted n stand reached a proposed e =
+    stays_traced n.durable stand (node_hearing (vote_heard n sender granted) n) refl
+
+module _
+    {shape : Shape} {g : History} {member : ℕ} {n : Node} {book : List Proposal} (reached : Reached shape.faults g) (is : IsShape shape)
+    (a : NodeAgrees shape g member n) (stand : AllStand book 1 n.durable.log) (proposed : All (ProposalAgrees g) book) where
+  peer_turned :
+      (sender : ℕ) (body : Peer) → SaidAgrees g sender member n.durable.term body → PeerStands book body →
+      TurnBridged shape g book member n.durable (act_of_peer n sender body)
+  peer_turned sender (peers.Vote last_of last) told sent =
+      turned (vote_request_bridged reached a sender told.apart last_of last told.body_agrees) (vote_request_traced n stand sender last_of last)
+  peer_turned sender (peers.VoteReply granted) told sent =
+      turned (vote_reply_bridged sender granted reached is a told)
+      (vote_reply_as_traced n.volatile.role sender granted n stand reached (hearing_agrees (vote_heard n sender granted) a (le_refl _) told) proposed refl)
+  peer_turned sender (peers.Append prev prev_term commit entries) told sent =
+      append_as_turned reached a sender prev prev_term commit entries told.apart told.body_agrees stand sent n.volatile.role
+  peer_turned sender (peers.Matched prev count mask) told sent =
+      turned (matched_bridged reached a sender prev count mask told)
+      (matched_as_traced n reached stand sender n.volatile.role prev count mask refl
+      (hearing_agrees (log_heard n sender (Matched prev count mask)) a (le_refl _) told))
+  peer_turned sender (peers.Refused next) told sent =
+      turned (refused_bridged reached a sender next told.apart) (refused_as_traced n reached stand sender n.volatile.role next)
+  peer_turned sender (peers.Ask start) told sent = turned (unmoved_stays a) (stays_traced n.durable stand n refl)
+  peer_turned sender (peers.Answer start last slots) told sent = turned (unmoved_stays a) (stays_traced n.durable stand n refl)
+
+-- ---- any message
+
+-- a term that is recorded first leaves what is traced as it is
+behind_term :
+    (h : History) (book : List Proposal) (event member at : ℕ) (n : Node) (rule : Node → Act) →
+    ActTraced h book event member (act_of_term at n).node.durable (rule (act_of_term at n).node) →
+    ActTraced h book event member n.durable (followed_by (act_of_term at n) rule)
+behind_term h book event member at n rule =
+    cond_both (nat_lt n.durable.term at) (act_of_higher_term at n) (stays n)
+    (λ act. ActTraced h book event member act.node.durable (rule act.node) → ActTraced h book event member n.durable (followed_by act rule))
+    (λ higher t. record { proposals = t.proposals; removals = t.removals; commits = t.commits; log = t.log; sends = t.sends })
+    (λ same t. record { proposals = t.proposals; removals = t.removals; commits = t.commits; log = t.log; sends = t.sends })
+
+term_keeps : (at : ℕ) (n : Node) → (act_of_term at n).node.durable.log ≡ n.durable.log
+term_keeps at n = cond_both (nat_lt n.durable.term at) (act_of_higher_term at n) (stays n) (λ act. act.node.durable.log ≡ n.durable.log) (λ higher. refl) (λ same. refl)
+
+module _
+    {shape : Shape} {g : History} {n : Node} {from to at : ℕ} {body : Peer} {book : List Proposal} (reached : Reached shape.faults g) (is : IsShape shape)
+    (a : NodeAgrees shape g to n) (told : SaidAgrees g from to at body) (stand : AllStand book 1 n.durable.log) (proposed : All (ProposalAgrees g) book)
+    (sent : PeerStands book body) where
+  current_turned : nat_lt at n.durable.term ≡ false → TurnBridged shape g book to n.durable (followed_by (act_of_term at n) (λ now. act_of_peer now from body))
+  current_turned current =
+      let first : ActBridged shape g to (act_of_term at n) = term_bridged a at in
+      let h : History = first.history in
+      let grows : Grows g h = reached_grows reached (first.moves).run in
+      let still : SaidAgrees h from to at body = message_stays grows (messages.Peer from to at body) told in
+      let own : SaidAgrees h from to (act_of_term at n).node.durable.term body = subst (λ t. SaidAgrees h from to t body) (sym (caught_up n at current)) still in
+      let later : Reached shape.faults h = moves_trans shape.faults _ g h reached (first.moves).run in
+      let log : AllStand book 1 (act_of_term at n).node.durable.log = subst (AllStand book 1) (sym (term_keeps at n)) stand in
+      let next : TurnBridged shape h book to (act_of_term at n).node.durable (act_of_peer (act_of_term at n).node from body) =
+      peer_turned later is first.node log (proposals_stay grows book proposed) from body own sent in
+      record {
+        bridged = then_moved reached (act_of_term at n) (λ now. act_of_peer now from body) first next.bridged;
+        traced = λ event. behind_term (next.bridged).history book event to at n (λ now. act_of_peer now from body) (next.traced event);
+      }
+
+  said_turned : TurnBridged shape g book to n.durable (act_of_message (messages.Peer from to at body) n)
+  said_turned =
+      cond_both (nat_lt at n.durable.term) (act_of_lower_term n from body) (followed_by (act_of_term at n) (λ now. act_of_peer now from body))
+      (TurnBridged shape g book to n.durable)
+      (λ lower.
+      turned (lower_term_bridged a from body told.apart)
+      (silent_traced n.durable stand (act_of_lower_term n from body) refl refl (λ more log. stale_replies_stand more n from body)))
+      current_turned
+
+-- a message comes to the member that it is for
+pub message_turned :
+    {shape : Shape} {g : History} {n : Node} {book : List Proposal} (m : Message) → Reached shape.faults g → IsShape shape →
+    NodeAgrees shape g (receiver_byte m) n → MessageAgrees g m → AllStand book 1 n.durable.log → All (ProposalAgrees g) book → MessageStands book m →
+    TurnBridged shape g book (receiver_byte m) n.durable (act_of_message m n)
+message_turned (messages.Peer from to at body) reached is a told stand proposed sent = said_turned reached is a told stand proposed sent
+message_turned {n = n} (messages.Request receiver request) reached is a told stand proposed sent = turned (unmoved_stays a) (stays_traced n.durable stand n refl)
+message_turned {n = n} (messages.Answered sender client seq reply) reached is a told stand proposed sent = turned (unmoved_stays a) (stays_traced n.durable stand n refl)

@@ -1,0 +1,51 @@
+-- When what a run keeps lists of agrees with a history, and when entries stand in the book of what was proposed.
+use Rattle.std.specs.Prelude.{◌≡◌, ℕ, ◌+◌, ◌<◌, ◌≤◌, List, [], ◌∷◌, length, Some, slice_get}
+use Rattle.craft_base.specs.declared.command.Entry.{Entry}
+use Rattle.entry_frames.specs.declared.message.Message.{Message}
+use Rattle.entry_frames.specs.declared.message.Message.TheVariants as messages
+use Rattle.entry_frames.specs.declared.peer.Peer.{Peer}
+use Rattle.entry_frames.specs.declared.peer.Peer.TheVariants as peers
+use Rattle.world_model.specs.Safety.{StandsFor, command_in}
+use Rattle.world_model.specs.Traces.{Command, LeaderCommit, Proposal, Removal}
+use Rattle.protocol.specs.History.{Cut, History, IsIn}
+use Rattle.protocol.specs.Logs.{Agree}
+use Rattle.protocol.specs.Words.{IsLost}
+use Rattle.bridge.specs.Views.{log_seen}
+
+-- ---- what was proposed, removed and committed
+
+-- it has an index of the log that history has for its term
+abbrev pub ProposalAgrees : History → Proposal → Type 0
+ProposalAgrees h p = (0 < p.index) × (p.index ≤ length (h.led p.term))
+
+-- an entry of that term went out of a log at the index, in a cut of a term
+abbrev pub IsGone : History → (cut_term index entry_term : ℕ) → Type 0
+IsGone h cut_term index entry_term = (cut : Cut) × IsIn cut h.cuts × (cut.term ≡ cut_term) × IsLost cut index entry_term
+
+-- each entry that was removed went out by a cut of the remover's term
+abbrev pub RemovalAgrees : History → Removal → Type 0
+RemovalAgrees h c = (place : ℕ) (entry : Entry) → slice_get c.entries place ≡ Some entry → IsGone h c.term (c.index + place) entry.term
+
+-- the term's leader decided what was committed, which is a front of its log
+abbrev pub CommitAgrees : History → LeaderCommit → Type 0
+CommitAgrees h c = (length c.log ≤ h.decided c.term) × Agree (log_seen c.log) (h.led c.term) (length c.log)
+
+-- ---- the book
+
+-- the book has a command for an entry's term and an index, and the entry asks for it, with the whole value
+abbrev pub StandsAt : List Proposal → (index : ℕ) → Entry → Type 0
+StandsAt book index entry = (command : Command) × (command_in book entry.term index ≡ Some command) × StandsFor entry command
+
+-- so does each of these entries, the first of which has that index
+abbrev pub AllStand : List Proposal → (index : ℕ) → List Entry → Type 0
+AllStand book index [] = Unit {0}
+AllStand book index (entry ∷ entries) = StandsAt book index entry × AllStand book (index + 1) entries
+
+-- so does each entry that a message carries
+abbrev pub PeerStands : List Proposal → Peer → Type 0
+PeerStands book (peers.Append prev prev_term commit entries) = AllStand book (prev + 1) entries
+PeerStands book _ = Unit {0}
+
+abbrev pub MessageStands : List Proposal → Message → Type 0
+MessageStands book (messages.Peer sender receiver term body) = PeerStands book body
+MessageStands book _ = Unit {0}

@@ -1,0 +1,53 @@
+use Rattle.std.proofs.Common.{◌≡◌, ◌∙◌, ◌++◌, map, ap, sym, subst}
+use Rattle.std.specs.Option.{option_to_list}
+use Rattle.std.specs.Prelude.{◌==◌, ◌&&◌}
+use Rattle.entry_frames.specs.declared.output.Output.TheVariants as outputs
+use Rattle.entry_frames.specs.declared.role.Role.TheVariants.{Preparing}
+use Rattle.world_model.specs.Ranges.{EventInRange}
+use Rattle.world_model.specs.Turn as turns
+use Rattle.node_core.specs.Stands.{Kept, Stands}
+use Rattle.node_core.specs.Acting.{IsNode, kept_of}
+use Rattle.node_core.specs.declared.telling.Before.{Before}
+use Rattle.node_core.specs.declared.turn.Turned.{Turned}
+use Rattle.node_core.specs.Turns.{TurnedTo, change_of, event_of, growth_of}
+use Rattle.node_core.proofs.Turning.{still_ranged, told_between, turned_to}
+use Rattle.node_core.proofs.running.Core.turn.Goals as goal
+
+pub invariant_of-result : goal.invariant_of-result
+invariant_of-result c =
+    let m = c.self.inside.member in
+    let event = event_of c.args.event.now in
+    let told : EventInRange m.shape m.me event = subst (λ k. EventInRange k.shape k.me event) (sym c.self.view_is) c.requires.ranged in
+    still_ranged m event c.in_ok-act.act c.in_ok-act-2.act c.in_ok-act.ensures.member c.in_ok-act-2.ensures c.law.ensures told c.self.invariant
+
+pub returns-clause-turned : goal.returns-clause-turned
+returns-clause-turned c = λ n s.
+    let m = c.self.inside.member in
+    let r = c.self.invariant in
+    let event = event_of c.args.event.now in
+    let act = c.in_ok-act-2.act in
+    let cuts = act.cuts.items in
+    let wholes = act.wholes.items in
+    let sends = act.sends.items in
+    let told : EventInRange m.shape m.me event = subst (λ k. EventInRange k.shape k.me event) (sym c.self.view_is) c.requires.ranged in
+    let stands : Stands (kept_of m) n = subst (λ (k : Kept). Stands k n) (sym c.self.view_is) s in
+    let is_node : IsNode m n = record { stands = stands; of_store = r.is.of_store ∙ sym r.is.stands.of_shape ∙ stands.of_shape } in
+    let tells : c.in_ok-outputs.outputs.items ≡ told_between m.role m.store.kept act.member.role act.member.store.kept cuts wholes sends =
+    c.in_ok-outputs.ensures
+    ∙ ap (λ role. (option_to_list role ++ (map (λ index. outputs.Cut index c.prepares.result) cuts ++ (map outputs.Whole wholes ++ option_to_list c.commit_change.result))) ++ map outputs.Send sends)
+    c.role_change.ensures
+    ∙ ap (λ prep. (option_to_list (change_of c.of-before.result.role c.of-before.result.term act.member.role act.member.store.kept.term)
+    ++ (map (λ index. outputs.Cut index prep) cuts ++ (map outputs.Whole wholes ++ option_to_list c.commit_change.result))) ++ map outputs.Send sends)
+    c.prepares.ensures
+    ∙ ap (λ grown. (option_to_list (change_of c.of-before.result.role c.of-before.result.term act.member.role act.member.store.kept.term)
+    ++ (map (λ index. outputs.Cut index (turns.is_same_role c.of-before.result.role Preparing && (c.of-before.result.term == act.member.store.kept.term))) cuts
+    ++ (map outputs.Whole wholes ++ option_to_list grown))) ++ map outputs.Send sends)
+    c.commit_change.ensures
+    ∙ ap (λ (b : Before). (option_to_list (change_of b.role b.term act.member.role act.member.store.kept.term)
+    ++ (map (λ index. outputs.Cut index (turns.is_same_role b.role Preparing && (b.term == act.member.store.kept.term))) cuts
+    ++ (map outputs.Whole wholes ++ option_to_list (growth_of b.commit act.member.store.kept.commit)))) ++ map outputs.Send sends)
+    c.of-before.ensures in
+    let left : Turned = record { group = c.in_ok-group.group; outputs = c.in_ok-outputs.outputs } in
+    subst (λ (k : Kept). TurnedTo k n event (kept_of act.member) left) c.self.view_is
+    (turned_to m event c.in_ok-act.act act c.in_ok-act.ensures.member c.in_ok-act-2.ensures c.law.ensures told r
+    c.in_ok-act.ensures.group c.in_ok-act.ensures.cuts c.in_ok-act.ensures.wholes c.in_ok-act.ensures.sends left c.in_ok-group.ensures tells n is_node)

@@ -1,0 +1,94 @@
+-- What a member does in the middle of a turn.
+use Rattle.std.specs.Prelude.{◌≡◌, ℕ, ◌+◌, ◌≤◌, List, [], ◌∷◌, ◌++◌, length}
+use Rattle.entry_frames.specs.Durable.{CanApplyAll}
+use Rattle.entry_frames.specs.Durable as durable
+use Rattle.entry_frames.specs.Bodies.{HaveSpellings}
+use Rattle.entry_frames.specs.MessageParts.{term_of}
+use Rattle.entry_frames.specs.Records.{Record, Cut, Whole, record_spellings}
+use Rattle.peer_frames.specs.FrameViews.{ViewedFrame}
+use Rattle.world_model.specs.Nodes.{Node}
+use Rattle.world_model.specs.Ranges.{HasSpelling, NodeInRange}
+use Rattle.world_model.specs.Rules.Acts as acts
+use Rattle.world_model.specs.Rules.Say.{start_of}
+use Rattle.node_core.specs.declared.act.Act.{Act}
+use Rattle.node_core.specs.declared.member.Member.{Member}
+use Rattle.node_core.specs.Stands.{Kept, Stands}
+
+-- ---- the member
+
+-- what is kept of it
+abbrev pub kept_of : Member → Kept
+kept_of m =
+    record { shape = m.shape; me = m.me; durable = m.store.kept; role = m.role; quiet = m.quiet; hint = m.hint; heard = m.heard }
+
+-- it stands for the node, and so does its store
+pub record IsNode (m : Member) (n : Node) : Type 0 where
+  pub stands : Stands (kept_of m) n
+  pub of_store : m.store.shape ≡ n.shape
+
+-- there is a node for which it stands, whose numbers are in range
+pub record IsRangedMember (m : Member) : Type 0 where
+  pub node : Node
+  pub is : IsNode m node
+  pub ranged : NodeInRange node.shape node.me node
+
+-- from where on it sends to each member lies in its log, or just behind it
+abbrev pub StartsInRange : Node → Type 0
+StartsInRange n = (member : ℕ) → (1 ≤ start_of n member) × (start_of n member ≤ length n.durable.log + 1)
+
+-- there is a node for which it stands, and from where on that sends lies in its log
+pub record MaySay (m : Member) : Type 0 where
+  pub node : Node
+  pub is : IsNode m node
+  pub starts : StartsInRange node
+
+-- a message of its cluster, in its term
+pub record IsCurrent (m : Member) (view : ViewedFrame) : Type 0 where
+  pub of_shape : view.shape ≡ m.store.shape
+  pub spelled : HasSpelling m.store.shape view.frame
+  pub term : term_of view.frame ≡ m.store.kept.term
+
+-- What outlives a crash stays, and whatever node the member stood for, it now stands for the one that the change makes of it.
+pub record Becomes (change : Node → Node) (old new : Member) : Type 0 where
+  pub store : new.store ≡ old.store
+  pub node : (n : Node) → IsNode old n → IsNode new (change n)
+
+-- these records have spellings, and can be applied in order
+pub record MayRecord (m : Member) (records : List Record) : Type 0 where
+  pub apply : CanApplyAll m.store.shape m.store.kept records
+  pub written : HaveSpellings m.store.shape.need records
+
+-- ---- what it did
+
+-- from which indexes on records remove entries
+abbrev pub cut_indexes : List Record → List ℕ
+cut_indexes [] = []
+cut_indexes (Cut index ∷ records) = index ∷ cut_indexes records
+cut_indexes (_ ∷ records) = cut_indexes records
+
+-- at which indexes they give a value
+abbrev pub whole_indexes : List Record → List ℕ
+whole_indexes [] = []
+whole_indexes (Whole index bytes ∷ records) = index ∷ whole_indexes records
+whole_indexes (_ ∷ records) = whole_indexes records
+
+-- the member stands for a rule's node, and the rule's records, which could be made, and its messages were added
+pub record IsActed (act : acts.Act) (before after : Act) : Type 0 where
+  pub node : IsNode after.member act.node
+  pub same : after.member.store.shape ≡ before.member.store.shape
+  pub may : MayRecord before.member act.records
+  pub kept : after.member.store.kept ≡ durable.after before.member.store.kept act.records
+  pub records : after.group ≡ before.group ++ record_spellings before.member.store.shape.need act.records
+  pub cuts : after.cuts.items ≡ before.cuts.items ++ cut_indexes act.records
+  pub wholes : after.wholes.items ≡ before.wholes.items ++ whole_indexes act.records
+  pub sends : after.sends.items ≡ before.sends.items ++ act.sends
+
+-- Whatever node the member stood for, the rule was carried out.
+abbrev pub Acts : (Node → acts.Act) → Act → Act → Type 0
+Acts rule before after = (n : Node) → IsNode before.member n → IsActed (rule n) before after
+
+-- these records were made and carried out, in order
+pub record Recorded (records : List Record) (before after : Act) : Type 0 where
+  pub acts : Acts (λ n. acts.recording_all records (acts.stays n)) before after
+  pub kept : after.member.store.kept ≡ durable.after before.member.store.kept records
+  pub shape : after.member.store.shape ≡ before.member.store.shape

@@ -1,0 +1,36 @@
+-- What holds of every run, in parts: of each shape and each list of events in range. The words are those of `world_model`'s Safety.
+use Rattle.std.specs.Prelude.{◌≡◌, ℕ, ◌<◌, ◌≤◌, List, take, Some, slice_get}
+use Rattle.craft_base.specs.Shape.{Shape}
+use Rattle.craft_base.specs.declared.command.Entry.{Entry}
+use Rattle.world_model.specs.Safety.{EverLed, IsFront, IsIn, IsRun, StandsFor, StandsIn, committed}
+use Rattle.world_model.specs.Traces.{Command, LeaderCommit, Removal}
+use Rattle.world_model.specs.World.{Member, run}
+use Rattle.world_model.specs.declared.line.Line.{Line}
+
+-- at each place below a member's commit index there is a command in the list that is committed, and the member's log has an entry
+-- for it, with the whole value
+abbrev pub OneList : Type 0
+OneList =
+    (shape : Shape) (events : List Line) → IsRun shape events → (me : ℕ) (m : Member) (place : ℕ) →
+    slice_get (run shape events).members me ≡ Some m → place < m.durable.commit →
+    (entry : Entry) × (command : Command) × (slice_get m.durable.log place ≡ Some entry)
+    × (slice_get (committed (run shape events)) place ≡ Some (Some command)) × StandsFor entry command
+
+-- the list that is committed after a front of the events is a front of the one that is committed in the end
+abbrev pub StaysCommitted : Type 0
+StaysCommitted =
+    (shape : Shape) (events : List Line) → IsRun shape events → (count : ℕ) →
+    IsFront (committed (run shape (take count events))) (committed (run shape events))
+
+-- no entry that a member removed stands in what a leader committed, in the remover's term or in a lower one
+abbrev pub RemovesUncommitted : Type 0
+RemovesUncommitted =
+    (shape : Shape) (events : List Line) → IsRun shape events → (cut : Removal) (commit : LeaderCommit) →
+    IsIn cut (run shape events).cuts → IsIn commit (run shape events).commits →
+    commit.term ≤ cut.term → StandsIn cut.index cut.entries commit.log → ⊥
+
+-- no term has two members that led it or prepared to, after whatever fronts of the events
+abbrev pub OneLeaderATerm : Type 0
+OneLeaderATerm =
+    (shape : Shape) (events : List Line) → IsRun shape events → (term one other : ℕ) →
+    EverLed shape events term one → EverLed shape events term other → one ≡ other
