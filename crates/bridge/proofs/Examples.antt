@@ -36,20 +36,34 @@ elects r =
 pub some_run_elects : SomeRunElects
 some_run_elects = (election [], runs (elects no_more), (5, (tt, refl)))
 
--- then member 1 takes the leader's empty entry, and the leader hears that it did
+-- member 1 is quiet for three ticks and asks for votes
+abbrev quiet_again : List Line → List Line
+quiet_again rest = Do (Tick 1 0) ∷ Do (Tick 1 0) ∷ Do (Tick 1 0) ∷ rest
+
+asks_again : {rest : List Line} → InRange rest → InRange (quiet_again rest)
+asks_again r = ticks 1 (omega arith) (ticks 1 (omega arith) (ticks 1 (omega arith) r))
+
+-- Member 1 takes the leader's empty entry, and the leader hears that it did and commits it. Then member 1 is elected by member 2;
+-- member 0 takes its entries, and member 1 hears that it did and commits both.
+abbrev two_terms : List Line
+two_terms = election (Do (Take 4) ∷ Do (Take 6) ∷ quiet_again (Do (Take 8) ∷ Do (Take 9) ∷ Do (Take 10) ∷ Do (Take 12) ∷ []))
+
+two_terms_in_range : InRange two_terms
+two_terms_in_range =
+    elects (takes 4 (omega arith) (omega arith) (takes 6 (omega arith) (omega arith) (asks_again
+    (takes 8 (omega arith) (omega arith) (takes 9 (omega arith) (omega arith) (takes 10 (omega arith) (omega arith) (takes 12 (omega arith) (omega arith) no_more)))))))
+
 pub some_run_commits : SomeRunCommits
-some_run_commits =
-    (election (Do (Take 4) ∷ Do (Take 6) ∷ []), runs (elects (takes 4 (omega arith) (omega arith) (takes 6 (omega arith) (omega arith) no_more))), refl, refl)
+some_run_commits = (two_terms, _, _, _, _, runs two_terms_in_range, refl, refl, refl, refl, refl, refl, refl, refl)
 
 -- or nobody takes it: member 1 is elected by member 2, and member 0 takes its entry in place of its own
 abbrev second : List Line
-second =
-    Do (Tick 1 0) ∷ Do (Tick 1 0) ∷ Do (Tick 1 0) ∷ Do (Take 7) ∷ Do (Take 8) ∷ Do (Take 9) ∷ Do (Take 11) ∷ []
+second = quiet_again (Do (Take 7) ∷ Do (Take 8) ∷ Do (Take 9) ∷ Do (Take 11) ∷ [])
 
 second_in_range : InRange second
 second_in_range =
-    ticks 1 (omega arith) (ticks 1 (omega arith) (ticks 1 (omega arith)
-    (takes 7 (omega arith) (omega arith) (takes 8 (omega arith) (omega arith) (takes 9 (omega arith) (omega arith) (takes 11 (omega arith) (omega arith) no_more))))))
+    asks_again
+    (takes 7 (omega arith) (omega arith) (takes 8 (omega arith) (omega arith) (takes 9 (omega arith) (omega arith) (takes 11 (omega arith) (omega arith) no_more))))
 
 pub some_run_removes : SomeRunRemoves
 some_run_removes =

@@ -1,11 +1,12 @@
 -- What is proved of every run: of each shape and each list of events in range.
-use Rattle.std.specs.Prelude.{◌≡◌, ◌≢◌, ◌≤◌, List, length, Some, slice_get}
+use Rattle.std.specs.Prelude.{◌≡◌, ◌≢◌, ◌≤◌, List, [], ◌∷◌, length, Some, slice_get}
 use Rattle.craft_base.specs.Shape.{Shape}
 use Rattle.craft_base.specs.declared.command.Entry.{Entry}
 use Rattle.entry_frames.specs.Logs.{entry_at}
 use Rattle.world_model.specs.Safety.{EverLed, IsIn, IsRun, OneLeaderATerm, committed}
-use Rattle.world_model.specs.Traces.{LeaderCommit, Removal}
+use Rattle.world_model.specs.Traces.{Command, LeaderCommit, Removal}
 use Rattle.world_model.specs.World as world
+use Rattle.world_model.specs.World.{Member}
 use Rattle.world_model.specs.declared.line.Line.{Line}
 use Rattle.protocol.specs.History as protocol
 use Rattle.bridge.specs.Bridges.{RunBridged}
@@ -26,10 +27,14 @@ three = record { faults = 1; need = 1 }
 abbrev pub SomeRunElects : Type 0
 SomeRunElects = (events : List Line) × IsRun three events × EverLed three events 1 0
 
--- a run in which an entry is committed, which a leader counted
+-- a run in which the leaders of two terms each commit an entry, and two members have committed, one of them less than the other
 abbrev pub SomeRunCommits : Type 0
 SomeRunCommits =
-    (events : List Line) × IsRun three events × (length (committed (world.run three events)) ≡ 1) × (length (world.run three events).commits ≡ 1)
+    (events : List Line) × (first second : Command) × (one other : Member) × IsRun three events
+    × (committed (world.run three events) ≡ Some first ∷ Some second ∷ []) × (first.term ≡ 1) × (second.term ≡ 2)
+    × (length (world.run three events).commits ≡ 2)
+    × (slice_get (world.run three events).members 0 ≡ Some one) × (one.durable.commit ≡ 1)
+    × (slice_get (world.run three events).members 1 ≡ Some other) × (other.durable.commit ≡ 2)
 
 -- and one in which a member removes an entry, and a leader of the remover's term or of a lower one commits another in its place
 abbrev pub SomeRunRemoves : Type 0

@@ -22,8 +22,8 @@ pub fn some_run_elects()
     ensures { SomeRunElects }
 {}
 
-/// There is a run in which an entry is committed, and one in which an entry that a lost leader added is removed and the leader that
-/// came after it commits another in its place.
+/// There is a run in which the leaders of two terms each commit an entry, and one in which an entry that a lost leader added is
+/// removed and the leader that came after it commits another in its place.
 pub fn some_run_commits()
     ensures commits { SomeRunCommits }
     ensures removes { SomeRunRemoves }

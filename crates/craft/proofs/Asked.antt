@@ -24,7 +24,7 @@ replayed shape before after ends.End h = h
 replayed shape before after (ends.Bad line) h = h
 replayed shape before after ends.SourceFault h = h
 replayed shape before after ends.SinkFault h = h
-replayed shape before after ends.NoMemory h = tt
+replayed shape before after ends.NoMemory h = h
 
 pub was_split : (shape : Shape) (before after : Streams) (end : SplitEnd) → SplitEnds shape before after end → Splits shape before after (status_of_split end)
 was_split shape before after splits.End h = h
@@ -43,12 +43,12 @@ was_joined shape before after joins.NoMemory h = h
 
 -- the fault that was told came of its device
 pub source_failed : (asked : Command) (before after : Streams) → Answers asked before after SourceFault → Rose before.source_faults after.source_faults
-source_failed (commands.Replay shape) before after h = h
+source_failed (commands.Replay shape) before after h = h.0
 source_failed (commands.Split shape) before after h = h.0
 source_failed (commands.Join shape) before after h = h.0
 
 pub sink_failed : (asked : Command) (before after : Streams) → Answers asked before after SinkFault → Rose before.sink_faults after.sink_faults
-sink_failed (commands.Replay shape) before after h = h
+sink_failed (commands.Replay shape) before after h = h.0
 sink_failed (commands.Split shape) before after h = h.0
 sink_failed (commands.Join shape) before after h = h.0
 

@@ -1,7 +1,6 @@
 -- What the program does for its words.
 use Rattle.std.specs.Prelude.{◌≡◌, ℕ, List, [], Option, None}
 use Rattle.craft_base.specs.Shape.{Shape}
-use Rattle.craft_edge.specs.Causes.{Rose}
 use Rattle.fragment_text.specs.Joining.{JoinEnds}
 use Rattle.fragment_text.specs.Splitting.{SplitEnds}
 use Rattle.craft_edge.specs.Streams.{Streams}
@@ -11,7 +10,8 @@ use Rattle.world_model.specs.declared.command.Command.{Command}
 use Rattle.world_model.specs.declared.command.Command.TheVariants.{Replay, Split, Join}
 use Rattle.craft.specs.declared.status.Status.{Status}
 use Rattle.craft.specs.declared.status.Status.TheVariants.{Done, BadWords, BadSchedule, TooFew, SourceFault, SinkFault, NoMemory}
-use Rattle.schedule_replay.specs.Replaying.{PrintsAll, PrintsUpTo}
+use Rattle.schedule_replay.specs.Replaying.{EndsEarly, PrintsAll, PrintsUpTo}
+use Rattle.schedule_replay.specs.declared.replay_end.ReplayEnd.TheVariants as replays
 
 -- the paths of the journals that a command has, and the place at which it binds its socket; no command has one yet
 abbrev pub paths : List (List ℕ) → List (List ℕ)
@@ -21,15 +21,16 @@ abbrev pub place : List (List ℕ) → Option ℕ
 place words = None
 
 -- What a status of `replay` means: the whole input was read, every line of it was good, and exactly the text of the run was
--- written; or that line is the first bad one, and exactly the text of the events before it was written; or that device failed.
+-- written; or that line is the first bad one, and exactly the text of the events before it was written; or that device failed, or
+-- memory was wanting, with as much of the text written as is told there.
 abbrev pub Replays : Shape → Streams → Streams → Status → Type 0
 Replays shape before after Done = PrintsAll shape before after
 Replays shape before after BadWords = ⊥
 Replays shape before after (BadSchedule line) = PrintsUpTo shape line before after
 Replays shape before after (TooFew index) = ⊥
-Replays shape before after SourceFault = Rose before.source_faults after.source_faults
-Replays shape before after SinkFault = Rose before.sink_faults after.sink_faults
-Replays shape before after NoMemory = Unit {0}
+Replays shape before after SourceFault = EndsEarly shape before after replays.SourceFault
+Replays shape before after SinkFault = EndsEarly shape before after replays.SinkFault
+Replays shape before after NoMemory = EndsEarly shape before after replays.NoMemory
 
 -- what a status of `split` means: an input that is too long is bad at line 1
 abbrev pub Splits : Shape → Streams → Streams → Status → Type 0

@@ -61,11 +61,6 @@ abbrev pub planned_records : (prev : ℕ) → List Entry → Option ℕ → List
 planned_records prev entries cut wholes first_new =
     map (λ index. Whole index (value_at prev entries index)) wholes ++ (map Cut (option_to_list cut) ++ map Add (drop first_new entries))
 
--- those of a plan; none where nothing is taken
-abbrev pub records_of_plan : (prev : ℕ) → List Entry → Plan → List Record
-records_of_plan prev entries (plans.Take cut wholes first_new mask commit_after) = planned_records prev entries cut wholes.items first_new
-records_of_plan prev entries _ = []
-
 -- where the append is taken, the records that the plan names are those of the rule
 abbrev pub AreItsRecords : (prev : ℕ) → List Entry → List Entry → Plan → Type 0
 AreItsRecords prev log entries (plans.Take cut wholes first_new mask commit_after) =

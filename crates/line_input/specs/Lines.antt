@@ -26,3 +26,7 @@ TakesLine old new text LineFeed = Consumes old new (text ++ 10 ∷ []) × HasNoL
 TakesLine old new text End = Consumes old new [] × IsAtEnd new
 TakesLine old new text Broken =
     Consumes old new text × HasNoLineFeed text × ((IsAtEnd new × (0 < length text)) ⊎ (length text ≡ longest_line))
+
+-- a piece of a line was taken, and no line feed
+abbrev pub TakesUnfinished : Option (List ℕ) → Option (List ℕ) → Type 0
+TakesUnfinished old new = (text : List ℕ) × Consumes old new text × HasNoLineFeed text

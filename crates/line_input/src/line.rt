@@ -1,7 +1,8 @@
 //! The lines of an input.
-ghost use Rattle.std.specs.Prelude.{◌≡◌, ◌≤◌, ◌⊎◌, is_some, IfOk, IfErr};
+ghost use Rattle.std.specs.Prelude.{◌≡◌, ◌≤◌, ◌⊎◌, is_some, IfOk, IfErr, OnErr};
+ghost use Rattle.std.specs.Io.KnownBytes.{Keeps};
 ghost use Rattle.craft_edge.specs.Causes.{Rose};
-ghost use Rattle.line_input.specs.Lines.{TakesByte, TakesLine};
+ghost use Rattle.line_input.specs.Lines.{TakesByte, TakesLine, TakesUnfinished};
 ghost use Rattle.line_input.specs.declared.fault.InputFault.TheVariants.{SourceFault, NoMemory};
 
 use crate::InputFault;
@@ -25,6 +26,7 @@ pub fn read_line<S: Source>(src: &mut S, line: &mut Vec<u8>) -> Result<LineEnd, 
     ensures taken { IfOk result (λ end. TakesLine (S.left src.old) (S.left src.new) line.new.items end) }
     ensures told { is_some (S.left src.new) ≡ is_some (S.left src.old) }
     ensures later { S.faults src.old ≤ S.faults src.new }
+    ensures unfinished { IfErr result (λ e. e ≡ SourceFault → TakesUnfinished (S.left src.old) (S.left src.new)) }
     ensures failed { IfErr result (λ e. (e ≡ NoMemory) ⊎ ((e ≡ SourceFault) × Rose (S.faults src.old) (S.faults src.new))) }
 {
     line.clear();
@@ -42,6 +44,7 @@ pub fn read_line<S: Source>(src: &mut S, line: &mut Vec<u8>) -> Result<LineEnd, 
 /// Takes one byte of the source, or none at its end.
 fn next_byte<S: Source>(src: &mut S) -> Result<Option<u8>, InputFault>
     ensures taken { IfOk result (λ byte. TakesByte (S.left src.old) (S.left src.new) byte) }
+    ensures kept { OnErr result (Keeps (S.left src.old) (S.left src.new)) }
     ensures told { is_some (S.left src.new) ≡ is_some (S.left src.old) }
     ensures later { S.faults src.old ≤ S.faults src.new }
     ensures failed { IfErr result (λ e. (e ≡ SourceFault) × Rose (S.faults src.old) (S.faults src.new)) }

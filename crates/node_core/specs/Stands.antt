@@ -5,7 +5,6 @@ use Rattle.entry_frames.specs.Durable.{Durable}
 use Rattle.entry_frames.specs.declared.role.Role.{Role}
 use Rattle.heard_book.specs.Kept as known
 use Rattle.world_model.specs.Nodes.{Node}
-use Rattle.world_model.specs.Ranges.{NodeInRange}
 
 -- what is kept of a member: all that a node has, and in place of all that it heard what it knows by it
 pub record Kept : Type 0 where
@@ -28,9 +27,3 @@ pub record Stands (core : Kept) (n : Node) : Type 0 where
   pub of_hint : core.hint ≡ n.volatile.hint
   pub of_heard : known.Stands core.heard n.shape n.volatile.heard n.volatile.first
   pub settled : core.heard.window.settled ≤ n.durable.commit
-
--- there is a node for which it stands, whose numbers are in range
-pub record IsRanged (core : Kept) : Type 0 where
-  pub node : Node
-  pub stands : Stands core node
-  pub ranged : NodeInRange node.shape node.me node

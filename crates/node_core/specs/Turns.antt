@@ -1,5 +1,5 @@
 -- What a running member is told, and what is left of its turn.
-use Rattle.std.specs.Prelude.{◌≡◌, ℕ, [], All, Bool, ◌&&◌, ◌==◌, nat_lt, if◌then◌else◌, Option, None, Some}
+use Rattle.std.specs.Prelude.{◌≡◌, ℕ, [], All, ◌&&◌, ◌==◌, nat_lt, if◌then◌else◌, Option, None, Some}
 use Rattle.craft_base.specs.Shape.{Shape}
 use Rattle.entry_frames.specs.Bodies.{HaveSpellings}
 use Rattle.entry_frames.specs.Durable.{CanApplyAll}
@@ -7,7 +7,6 @@ use Rattle.entry_frames.specs.Records.{record_spellings}
 use Rattle.entry_frames.specs.declared.output.Output.{Output}
 use Rattle.entry_frames.specs.declared.output.Output.TheVariants as outputs
 use Rattle.entry_frames.specs.declared.role.Role.{Role}
-use Rattle.peer_frames.specs.FrameViews.{ViewedFrame}
 use Rattle.world_model.specs.Nodes.{Node}
 use Rattle.world_model.specs.Ranges.{EventInRange, HasSpelling}
 use Rattle.world_model.specs.Turn as turns
@@ -15,9 +14,6 @@ use Rattle.node_core.specs.declared.event.Event.{Event}
 use Rattle.node_core.specs.declared.event.Event.TheVariants as events
 use Rattle.node_core.specs.declared.turn.Turned.{Turned}
 use Rattle.node_core.specs.Stands.{Kept, Stands}
-
-abbrev pub frame_of : ViewedFrame → Event
-frame_of view = events.Frame view
 
 abbrev pub event_of : Event → turns.Event
 event_of (events.Tick word) = turns.Tick word

@@ -2,7 +2,7 @@
 ghost use Rattle.std.specs.Prelude.{◌≡◌, ◌<◌, IfOk};
 ghost use Rattle.craft_base.specs.Shape.{members_of};
 ghost use Rattle.world_model.specs.Nodes.{started};
-ghost use Rattle.node_core.specs.Stands.{IsRanged, Stands};
+ghost use Rattle.node_core.specs.Stands.{Stands};
 
 use crate::member::Member;
 use craft_base::{MemberId, OutOfMemory, Shape};

@@ -3,6 +3,7 @@ mod Spelled
 mod Printing
 mod Reading
 mod Progressing
+mod EarlyEnds
 mod Seating
 mod Shells
 mod Tallying

@@ -2,8 +2,10 @@
 use Rattle.std.specs.Prelude.{◌≡◌, ℕ, ◌+◌, List, [], ◌++◌, length, Option, None, Some, IfSome, Bool, true, false}
 use Rattle.std.specs.Io.KnownBytes.{Appends}
 use Rattle.craft_base.specs.Shape.{Shape}
+use Rattle.craft_edge.specs.Bytes.{AppendsPrefix}
 use Rattle.craft_edge.specs.Causes.{Rose}
 use Rattle.craft_edge.specs.Streams.{Streams, WhereBothTold}
+use Rattle.line_input.specs.Lines.{HasNoLineFeed}
 use Rattle.world_model.specs.Lines.{lines_of_run}
 use Rattle.world_model.specs.Safety.{IsSafe}
 use Rattle.world_model.specs.Schedule.{Reading, with_event, reading, reading_from, lines_of}
@@ -50,20 +52,45 @@ PrintsAll shape before after = WhereBothTold before.left after.left (λ bytes re
 abbrev pub PrintsUpTo : Shape → ℕ → Streams → Streams → Type 0
 PrintsUpTo shape line before after = IfSome before.left (λ bytes. PrintsReading shape (Some line) bytes before.taken after.taken)
 
+-- a reading that begins with these events
+abbrev pub after_events : List Line → Reading → Reading
+after_events events rest = record rest { events = events ++ rest.events }
+
+-- the bytes say these events first, and then what the bytes say that are left
+abbrev pub SaysFirst : Shape → List Line → (bytes left : List ℕ) → Type 0
+SaysFirst shape events bytes left = reading shape bytes ≡ after_events events (reading_from shape (1 + length events) (lines_of left))
+
+-- what was taken are good lines and then an unfinished one, and the text of the events of the good ones was written
+abbrev pub PrintsTaken : Shape → Streams → Streams → Type 0
+PrintsTaken shape before after =
+    WhereBothTold before.left after.left (λ bytes rest.
+    (events : List Line) × (unfinished : List ℕ) × SaysFirst shape events bytes (unfinished ++ rest) × HasNoLineFeed unfinished
+    × Appends before.taken after.taken (lines_of_run shape events))
+
+-- a first part of the text was written
+abbrev pub PrintsPart : Shape → Streams → Streams → Type 0
+PrintsPart shape before after = IfSome before.left (λ bytes. AppendsPrefix before.taken after.taken (lines_of_run shape (reading shape bytes).events))
+
+-- the text of the first so many events was written
+abbrev pub PrintsSome : Shape → Streams → Streams → Type 0
+PrintsSome shape before after =
+    IfSome before.left (λ bytes.
+    (events more : List Line) × ((reading shape bytes).events ≡ events ++ more) × Appends before.taken after.taken (lines_of_run shape events))
+
 -- how a replay ends early: by a device that failed, or for want of memory
-abbrev pub EndsEarly : Streams → Streams → ReplayEnd → Type 0
-EndsEarly before after SourceFault = Rose before.source_faults after.source_faults
-EndsEarly before after SinkFault = Rose before.sink_faults after.sink_faults
-EndsEarly before after NoMemory = Unit {0}
-EndsEarly before after _ = ⊥
+abbrev pub EndsEarly : Shape → Streams → Streams → ReplayEnd → Type 0
+EndsEarly shape before after SourceFault = Rose before.source_faults after.source_faults × PrintsTaken shape before after
+EndsEarly shape before after SinkFault = Rose before.sink_faults after.sink_faults × PrintsPart shape before after
+EndsEarly shape before after NoMemory = PrintsSome shape before after
+EndsEarly shape before after _ = ⊥
 
 -- how a replay ends: read to its end, at the first bad line, or early
 abbrev pub Ends : Shape → Streams → Streams → ReplayEnd → Type 0
 Ends shape before after End = PrintsAll shape before after
 Ends shape before after (Bad line) = PrintsUpTo shape line before after
-Ends shape before after SourceFault = EndsEarly before after SourceFault
-Ends shape before after SinkFault = EndsEarly before after SinkFault
-Ends shape before after NoMemory = EndsEarly before after NoMemory
+Ends shape before after SourceFault = EndsEarly shape before after SourceFault
+Ends shape before after SinkFault = EndsEarly shape before after SinkFault
+Ends shape before after NoMemory = EndsEarly shape before after NoMemory
 
 -- the world of that cluster, which stands for the events that the bytes say
 abbrev pub IsOfReading : Shape → Option (List ℕ) → Option Kept → Type 0
@@ -75,10 +102,6 @@ abbrev pub HandsBack : Shape → Option (List ℕ) → ReplayEnd → Option Kept
 HandsBack shape left End world = IsOfReading shape left world
 HandsBack shape left (Bad line) world = IsOfReading shape left world
 HandsBack shape left _ world = world ≡ None
-
--- a reading that begins with these events
-abbrev pub after_events : List Line → Reading → Reading
-after_events events rest = record rest { events = events ++ rest.events }
 
 -- So far these events were read, and were carried out and printed; the line with this number is the next.
 pub record Progress (shape : Shape) (number : ℕ) (world : Kept) (left now_left taken now_taken : Option (List ℕ)) : Type 0 where

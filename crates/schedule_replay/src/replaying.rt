@@ -1,8 +1,10 @@
 //! The replay of a schedule: a line is read, its event is carried out, and its text is written, one after the other.
 ghost use Rattle.std.specs.Prelude.{◌≡◌, ◌<◌, ◌≤◌, ◌+◌, ◌++◌, ◌∷◌, ◌⊎◌, [], List, Some, length, is_some, IfOk, IfErr, OnOk};
-ghost use Rattle.std.specs.Io.KnownBytes.{Appends};
+ghost use Rattle.std.specs.Io.KnownBytes.{Appends, Keeps};
 ghost use Rattle.craft_base.specs.Shape.{Shape};
+ghost use Rattle.craft_edge.specs.Bytes.{AppendsPrefix};
 ghost use Rattle.craft_edge.specs.Causes.{Rose};
+ghost use Rattle.line_input.specs.Lines.{TakesUnfinished};
 ghost use Rattle.world_model.specs.Lines.{event_text};
 ghost use Rattle.world_model.specs.Schedule.{most_lines};
 ghost use Rattle.world_model.specs.Spelling.{IsLineOf};
@@ -10,7 +12,7 @@ ghost use Rattle.world_model.specs.World as model;
 ghost use Rattle.world_model.specs.declared.line.Line.{Line};
 ghost use Rattle.schedule_replay.specs.Replaying.{Ends, EndsEarly, HandsBack, ReadsNone, ReadsNext, end_or_bad};
 ghost use Rattle.schedule_replay.specs.Worlds.{StandsFor};
-ghost use Rattle.schedule_replay.specs.declared.replay_end.ReplayEnd.TheVariants.{SinkFault, NoMemory};
+ghost use Rattle.schedule_replay.specs.declared.replay_end.ReplayEnd.TheVariants.{SourceFault, SinkFault, NoMemory};
 
 use crate::replay_end::ReplayEnd;
 use crate::world::World;
@@ -49,7 +51,7 @@ fn run<S: Source, O: Sink>(
     ensures done { IfOk result (λ x. Ends shape.now (record { left = S.left src.old; taken = O.taken out.old; source_faults = S.faults src.old; sink_faults = O.faults out.old })
         (record { left = S.left src.new; taken = O.taken out.new; source_faults = S.faults src.new; sink_faults = O.faults out.new }) x.0) }
     ensures world { IfOk result (λ x. HandsBack shape.now (S.left src.old) x.0 (Some x.1)) }
-    ensures early { IfErr result (EndsEarly (record { left = S.left src.old; taken = O.taken out.old; source_faults = S.faults src.old; sink_faults = O.faults out.old })
+    ensures early { IfErr result (EndsEarly shape.now (record { left = S.left src.old; taken = O.taken out.old; source_faults = S.faults src.old; sink_faults = O.faults out.old })
         (record { left = S.left src.new; taken = O.taken out.new; source_faults = S.faults src.new; sink_faults = O.faults out.new })) }
 {
     let mut world = World::new(alloc, shape)?;
@@ -92,6 +94,7 @@ fn next_line<S: Source>(
     requires { number ≤ most_lines }
     ensures read { IfOk result (ReadsNext shape.now number (S.left src.old) (S.left src.new)) }
     ensures failed { IfErr result (ReadsNone (S.faults src.old) (S.faults src.new)) }
+    ensures unfinished { IfErr result (λ e. e ≡ SourceFault → TakesUnfinished (S.left src.old) (S.left src.new)) }
     ensures told { is_some (S.left src.new) ≡ is_some (S.left src.old) }
     ensures later { S.faults src.old ≤ S.faults src.new }
 {
@@ -110,6 +113,7 @@ fn next_line<S: Source>(
 fn has_ended<S: Source>(src: &mut S, line: &mut Vec<u8>) -> Result<bool, ReplayEnd>
     ensures read { IfOk result (λ ended. (shape : Shape) → ReadsNext shape (most_lines + 1) (S.left src.old) (S.left src.new) (end_or_bad ended)) }
     ensures failed { IfErr result (ReadsNone (S.faults src.old) (S.faults src.new)) }
+    ensures unfinished { IfErr result (λ e. e ≡ SourceFault → TakesUnfinished (S.left src.old) (S.left src.new)) }
     ensures told { is_some (S.left src.new) ≡ is_some (S.left src.old) }
     ensures later { S.faults src.old ≤ S.faults src.new }
 {
@@ -128,6 +132,9 @@ fn print_event<O: Sink>(asked: &Line, world: World, out: &mut O) -> Result<World
     ensures text { OnOk result ((events : List Line) → StandsFor world events → Appends (O.taken out.old) (O.taken out.new)
         (event_text (length events + 1) (model.run world.shape events) (model.step (model.run world.shape events) asked.now))) }
     ensures failed { IfErr result (λ e. (e ≡ NoMemory) ⊎ ((e ≡ SinkFault) × Rose (O.faults out.old) (O.faults out.new))) }
+    ensures kept { IfErr result (λ e. e ≡ NoMemory → Keeps (O.taken out.old) (O.taken out.new)) }
+    ensures part { IfErr result (λ e. e ≡ SinkFault → (events : List Line) → StandsFor world events → AppendsPrefix (O.taken out.old) (O.taken out.new)
+        (event_text (length events + 1) (model.run world.shape events) (model.step (model.run world.shape events) asked.now))) }
     ensures told { is_some (O.taken out.new) ≡ is_some (O.taken out.old) }
     ensures later { O.faults out.old ≤ O.faults out.new }
 {

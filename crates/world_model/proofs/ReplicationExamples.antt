@@ -1,5 +1,5 @@
 -- What a leader sends and commits, and what a follower makes of it, at logs worked out by hand.
-use Rattle.std.proofs.Common.{◌≡◌, ℕ, List, [], ◌∷◌, refl, Some, None, true}
+use Rattle.std.proofs.Common.{◌≡◌, ℕ, List, [], ◌∷◌, refl, Some, None, Bool, true, false}
 use Rattle.craft_base.specs.Knowledge.{Heard, From, Matched}
 use Rattle.craft_base.specs.Shape.{Shape}
 use Rattle.craft_base.specs.declared.command.Entry.{Entry}
@@ -75,6 +75,28 @@ put form = record { term = 2; head = record { client = 7; seq = 1; op = Put; key
 completed : (hears (peers.Append 1 1 1 (put (forms.Whole (5 ∷ 6 ∷ [])) ∷ [])) (member Follower (noop 1 ∷ put (forms.Part (9 ∷ [])) ∷ []) [])).records
     ≡ records.Whole 2 (5 ∷ 6 ∷ []) ∷ []
 completed = refl
+
+-- ---- a vote
+
+-- its log has three entries, the last of term 2: it grants a vote in a new term to one whose log ends in a later term, or in the same
+-- and with no fewer entries
+abbrev answers : (last_term last : ℕ) → List Message
+answers last_term last = (act_of (Frame (messages.Peer 1 0 5 (peers.Vote last_term last))) (member Follower log [])).sends
+
+abbrev voted : Bool → List Message
+voted granted = messages.Peer 0 1 5 (peers.VoteReply granted) ∷ []
+
+older_last_term : answers 1 9 ≡ voted false
+older_last_term = refl
+
+fewer_entries : answers 2 2 ≡ voted false
+fewer_entries = refl
+
+as_many_entries : answers 2 3 ≡ voted true
+as_many_entries = refl
+
+later_last_term : answers 3 1 ≡ voted true
+later_last_term = refl
 
 -- ---- a candidate that wins
 

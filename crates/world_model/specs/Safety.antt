@@ -71,9 +71,9 @@ committed_log w = let d = furthest born w.members in take d.commit d.log
 abbrev pub committed : World → List (Option Command)
 committed w = commands_of w.book 1 (committed_log w)
 
--- the entry asks for that, and holds the whole value
+-- the entry is of the command's term, asks for the same, and holds the whole value
 abbrev pub StandsFor : Entry → Command → Type 0
-StandsFor entry command = (entry.head ≡ command.head) × (entry.form ≡ forms.Whole command.value)
+StandsFor entry command = (entry.term ≡ command.term) × (entry.head ≡ command.head) × (entry.form ≡ forms.Whole command.value)
 
 -- each member has, up to its commit index, an entry for each of these commands
 abbrev pub HoldsCommitted : World → Type 0

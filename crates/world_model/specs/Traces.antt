@@ -8,8 +8,9 @@ use Rattle.entry_frames.specs.Records.{Record, Add, Cut, Commit}
 use Rattle.entry_frames.specs.declared.role.Role.{Role}
 use Rattle.entry_frames.specs.declared.role.Role.TheVariants.{Preparing, Leader}
 
--- what an entry asks for: its head, and the whole value
+-- what an entry is for: the term of the leader that proposed it, its head, and the whole value
 pub record Command : Type 0 where
+  pub term : ℕ
   pub head : Head
   pub value : List ℕ
 
@@ -43,7 +44,7 @@ has_won_term _ = false
 
 -- the command of an entry that is proposed, which is whole
 abbrev pub command_of : Entry → Command
-command_of entry = record { head = entry.head; value = form_bytes entry.form }
+command_of entry = record { term = entry.term; head = entry.head; value = form_bytes entry.form }
 
 -- ---- one record, of a member with that durable state
 

@@ -63,7 +63,7 @@ module _
       subst (λ i. command_in (book ++ p ∷ []) n.durable.term i ≡ Some p.command) at (command_in_new book p (nothing_found book proposed (length n.durable.log + 1))) in
       let log : AllStand (book ++ p ∷ []) 1 now.durable.log =
       stand_append (book ++ p ∷ []) 1 n.durable.log (noop n.durable.term ∷ []) (stand_more book (p ∷ []) 1 n.durable.log stand)
-      ((p.command, new, (refl, refl)), tt) in
+      ((p.command, new, (refl, refl, refl)), tt) in
       record {
         proposals = All-cons (ProposalAgrees h) p [] (omega arith, omega (arith, long, seen, more)) (All-nil (ProposalAgrees h));
         removals = All-nil (RemovalAgrees h);

@@ -133,5 +133,5 @@ pub no_completions :
 no_completions book at index [] entries stand = refl
 no_completions book at index (first ∷ own) [] stand = refl
 no_completions book at index (first ∷ own) (entry ∷ entries) stand =
-    ap (λ records. records ++ completions (index + 1) own entries) (entry_stays index first entry stand.0.0.value stand.0.2.1)
+    ap (λ records. records ++ completions (index + 1) own entries) (entry_stays index first entry stand.0.0.value stand.0.2.2)
     ∙ no_completions book (at + 1) (index + 1) own entries stand.1
