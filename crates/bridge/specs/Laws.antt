@@ -1,5 +1,5 @@
 -- What is proved of every run: of each shape and each list of events in range.
-use Rattle.std.specs.Prelude.{◌≡◌, ◌≢◌, ◌≤◌, List, [], ◌∷◌, length, Some, slice_get}
+use Rattle.std.specs.Prelude.{◌≡◌, ◌≢◌, ◌≤◌, List, [], ◌∷◌, map, Some, slice_get}
 use Rattle.craft_base.specs.Shape.{Shape}
 use Rattle.craft_base.specs.declared.command.Entry.{Entry}
 use Rattle.entry_frames.specs.Logs.{entry_at}
@@ -32,7 +32,7 @@ abbrev pub SomeRunCommits : Type 0
 SomeRunCommits =
     (events : List Line) × (first second : Command) × (one other : Member) × IsRun three events
     × (committed (world.run three events) ≡ Some first ∷ Some second ∷ []) × (first.term ≡ 1) × (second.term ≡ 2)
-    × (length (world.run three events).commits ≡ 2)
+    × (map (λ commit. commit.term) (world.run three events).commits ≡ 1 ∷ 2 ∷ [])
     × (slice_get (world.run three events).members 0 ≡ Some one) × (one.durable.commit ≡ 1)
     × (slice_get (world.run three events).members 1 ≡ Some other) × (other.durable.commit ≡ 2)
 

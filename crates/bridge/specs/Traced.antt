@@ -32,7 +32,7 @@ CommitAgrees h c = (length c.log ≤ h.decided c.term) × Agree (log_seen c.log)
 
 -- ---- the book
 
--- the book has a command for an entry's term and an index, and the entry asks for it, with the whole value
+-- the book has a command for an entry's term and an index, and the entry is of its term and asks for it, with the whole value
 abbrev pub StandsAt : List Proposal → (index : ℕ) → Entry → Type 0
 StandsAt book index entry = (command : Command) × (command_in book entry.term index ≡ Some command) × StandsFor entry command
 

@@ -12,11 +12,12 @@ use Rattle.craft_edge.specs.Streams.{Streams, WhereBothTold}
 use Rattle.craft_edge.proofs.StreamLemmas.{told_before, told_trans}
 use Rattle.line_input.specs.Lines.{HasNoLineFeed, TakesUnfinished}
 use Rattle.world_model.specs.Lines.{event_text, lines_from, lines_of_run}
-use Rattle.world_model.specs.Schedule.{with_event, reading, reading_from, lines_of}
+use Rattle.world_model.specs.Schedule.{reading, reading_from, lines_of}
 use Rattle.world_model.specs.World as model
 use Rattle.world_model.specs.declared.line.Line.{Line}
 use Rattle.world_model.proofs.Runs.{lines_from-append}
-use Rattle.schedule_replay.specs.Replaying.{EndsEarly, PrintsPart, PrintsSome, PrintsTaken, Progress, ReadsNone, after_events}
+use Rattle.schedule_replay.specs.Replaying.{EndsEarly, PrintsPart, PrintsSome, PrintsTaken, Progress, ReadsNone, TakesLineOf, TakesLinesOf, after_events}
+use Rattle.schedule_replay.proofs.Progressing.{read_on}
 use Rattle.schedule_replay.specs.Worlds.{Kept, StandsFor}
 use Rattle.schedule_replay.specs.declared.replay_end.ReplayEnd.{ReplayEnd}
 use Rattle.schedule_replay.specs.declared.replay_end.ReplayEnd.TheVariants.{End, Bad, SourceFault, SinkFault, NoMemory}
@@ -62,25 +63,24 @@ module _ (shape : Shape) (number : ℕ) (world : Kept) (left mid taken written :
       told_before left mid
       (λ before after. reading shape before ≡ after_events p.events (reading_from shape number (lines_of after)))
       (λ bytes. (events more : List Line) × ((reading shape bytes).events ≡ events ++ more) × Appends taken all (lines_of_run shape events))
-      p.read
+      (read_on shape number world left mid taken written p)
       (λ before after is. (p.events, (reading_from shape number (lines_of after)).events, ap (λ r. r.events) is, kept_on taken written all (lines_of_run shape p.events) p.text keeps))
 
   -- the lines so far were taken, and then an unfinished one
   taken_printed : (now : Option (List ℕ)) → TakesUnfinished mid now → (first last : ℕ) (a b : ℕ)
       → PrintsTaken shape (record { left = left; taken = taken; source_faults = a; sink_faults = b }) (record { left = now; taken = written; source_faults = first; sink_faults = last })
   taken_printed now (text, takes, none) first last a b =
-      told_trans left mid now
-      (λ before after. reading shape before ≡ after_events p.events (reading_from shape number (lines_of after)))
-      (λ before after. before ≡ text ++ after)
+      told_trans left mid now (TakesLinesOf shape number p.events) (λ before after. before ≡ text ++ after)
       (λ bytes rest.
-      (events : List Line) × (unfinished : List ℕ) × (reading shape bytes ≡ after_events events (reading_from shape (1 + length events) (lines_of (unfinished ++ rest))))
+      (events : List Line) × (good unfinished : List ℕ) × (bytes ≡ good ++ (unfinished ++ rest)) × (reading shape good ≡ record { events = events; bad = None })
       × HasNoLineFeed unfinished × Appends taken written (lines_of_run shape events))
       p.read (consumed mid now text takes)
-      (λ bytes between rest is left_is. (
+      (λ bytes between rest lines left_is. (
         p.events,
+        lines.0,
         text,
-        is ∙ ap (λ n. after_events p.events (reading_from shape n (lines_of between))) p.counted
-            ∙ ap (λ it. after_events p.events (reading_from shape (1 + length p.events) (lines_of it))) left_is,
+        lines.1 ∙ ap (λ it. lines.0 ++ it) left_is,
+        ap (reading shape) (sym (append-nil lines.0)) ∙ lines.2 [] ∙ ap (λ events. record { events = events; bad = None }) (append-nil p.events),
         none,
         p.text,
       ))
@@ -98,7 +98,7 @@ module _ (shape : Shape) (number : ℕ) (world : Kept) (left mid taken written :
 
   module _
       (event : Line) (now all : Option (List ℕ))
-      (read : WhereBothTold mid now (λ before after. reading_from shape number (lines_of before) ≡ with_event event (reading_from shape (number + 1) (lines_of after)))) where
+      (read : WhereBothTold mid now (TakesLineOf shape number event)) where
     abbrev text : Shape → ℕ → List ℕ
     text of count = event_text count (model.run of p.events) (model.step (model.run of p.events) event)
 
@@ -119,13 +119,13 @@ module _ (shape : Shape) (number : ℕ) (world : Kept) (left mid taken written :
         told_before left now (λ bytes rest. AppendsPrefix taken all (lines_of_run shape (reading shape bytes).events)) (λ bytes. AppendsPrefix taken all (lines_of_run shape (reading shape bytes).events))
         (told_trans left mid now
         (λ before after. reading shape before ≡ after_events p.events (reading_from shape number (lines_of after)))
-        (λ before after. reading_from shape number (lines_of before) ≡ with_event event (reading_from shape (number + 1) (lines_of after)))
+        (TakesLineOf shape number event)
         (λ bytes rest. AppendsPrefix taken all (lines_of_run shape (reading shape bytes).events))
-        p.read read
-        (λ bytes between left_now first_is then_is.
+        (read_on shape number world left mid taken written p) read
+        (λ bytes between left_now first_is line.
         let rest = (reading_from shape (number + 1) (lines_of left_now)).events in
         let is : (reading shape bytes).events ≡ events ++ rest =
-        ap (λ r. r.events) first_is ∙ ap (λ r. p.events ++ r.events) then_is ∙ sym (append_assoc p.events (event ∷ []) rest) in
+        ap (λ r. r.events) first_is ∙ ap (λ it. p.events ++ (reading_from shape number (lines_of it)).events) line.1 ∙ ap (λ r. p.events ++ r.events) (line.2 left_now) ∙ sym (append_assoc p.events (event ∷ []) rest) in
         subst (λ es. AppendsPrefix taken all (lines_of_run shape es)) (sym is) (whole rest)))
         (λ bytes rest is. is)
 

@@ -6,14 +6,14 @@ use Rattle.std.proofs.KnownBytes.{Appends-nil, Appends-trans}
 use Rattle.bridge.proofs.Safe.{every_run_is_safe}
 use Rattle.craft_base.specs.Shape.{Shape, IsShape}
 use Rattle.craft_edge.specs.Streams.{WhereBothTold}
-use Rattle.craft_edge.proofs.StreamLemmas.{told_if, told_same, told_trans}
+use Rattle.craft_edge.proofs.StreamLemmas.{told_if, told_map, told_same, told_trans}
 use Rattle.world_model.specs.Lines.{event_text, lines_of_run}
-use Rattle.world_model.specs.Schedule.{with_event, reading, reading_from, lines_of}
+use Rattle.world_model.specs.Schedule.{reading, reading_from, lines_of}
 use Rattle.world_model.specs.World as model
 use Rattle.world_model.specs.declared.line.Line.{Line}
 use Rattle.world_model.proofs.Readings.{reading_in_range}
 use Rattle.world_model.proofs.Runs.{lines_from-append}
-use Rattle.schedule_replay.specs.Replaying.{IsOfReading, PrintsReading, Progress, after_events}
+use Rattle.schedule_replay.specs.Replaying.{IsOfReading, PrintsReading, Progress, TakesLineOf, TakesLinesOf, after_events}
 use Rattle.schedule_replay.specs.Worlds.{Kept, StandsFor}
 
 -- nothing was read yet
@@ -25,7 +25,7 @@ begins shape world left taken of_shape started =
       counted = refl;
       reached = started;
       text = Appends-nil taken;
-      read = told_same left (λ before after. reading shape before ≡ after_events [] (reading_from shape 1 (lines_of after))) (λ bytes. refl);
+      read = told_same left (TakesLinesOf shape 1 []) (λ bytes. ([], refl, λ rest. refl));
     }
 
 -- the text of an event of the world's cluster
@@ -35,7 +35,7 @@ text_at shape number events event = event_text number (model.run shape events) (
 -- one line more
 pub goes_on : (shape : Shape) (number : ℕ) (world next : Kept) (left mid now taken written all : Option (List ℕ))
     → (p : Progress shape number world left mid taken written) → (event : Line)
-    → WhereBothTold mid now (λ before after. reading_from shape number (lines_of before) ≡ with_event event (reading_from shape (number + 1) (lines_of after)))
+    → WhereBothTold mid now (TakesLineOf shape number event)
     → next.shape ≡ world.shape → StandsFor next (p.events ++ event ∷ [])
     → Appends written all (event_text (length p.events + 1) (model.run world.shape p.events) (model.step (model.run world.shape p.events) event))
     → Progress shape (number + 1) next left now taken all
@@ -53,17 +53,24 @@ goes_on shape number world next left mid now taken written all p event read same
           ∙ sym (lines_from-append 1 (model.start shape) p.events event))
           (Appends-trans taken written all (lines_of_run shape p.events) (text_at world.shape (length p.events + 1) p.events event) p.text text);
       read =
-          told_trans left mid now
-          (λ before after. reading shape before ≡ after_events p.events (reading_from shape number (lines_of after)))
-          (λ before after. reading_from shape number (lines_of before) ≡ with_event event (reading_from shape (number + 1) (lines_of after)))
-          (λ before after. reading shape before ≡ after_events (p.events ++ event ∷ []) (reading_from shape (number + 1) (lines_of after)))
-          p.read read
-          (λ a b c first second.
-          first ∙ ap (after_events p.events) second
-          ∙ ap (λ es. record (reading_from shape (number + 1) (lines_of c)) { events = es }) (sym (append_assoc p.events (event ∷ []) (reading_from shape (number + 1) (lines_of c)).events)));
+          told_trans left mid now (TakesLinesOf shape number p.events) (TakesLineOf shape number event) (TakesLinesOf shape (number + 1) (p.events ++ event ∷ [])) p.read read
+          (λ a b c first second. (
+            first.0 ++ second.0,
+            first.1 ∙ ap (λ bytes. first.0 ++ bytes) second.1 ∙ sym (append_assoc first.0 second.0 c),
+            λ rest.
+                ap (reading shape) (append_assoc first.0 second.0 rest) ∙ first.2 (second.0 ++ rest) ∙ ap (after_events p.events) (second.2 rest)
+                ∙ ap (λ es. record (reading_from shape (number + 1) (lines_of rest)) { events = es })
+                (sym (append_assoc p.events (event ∷ []) (reading_from shape (number + 1) (lines_of rest)).events)),
+          ));
     }
 
 module _ (shape : Shape) (number : ℕ) (world : Kept) (left mid taken all : Option (List ℕ)) (p : Progress shape number world left mid taken all) where
+  -- what the bytes say, by what those say that are left
+  pub read_on : WhereBothTold left mid (λ before after. reading shape before ≡ after_events p.events (reading_from shape number (lines_of after)))
+  read_on =
+      told_map left mid (TakesLinesOf shape number p.events) (λ before after. reading shape before ≡ after_events p.events (reading_from shape number (lines_of after))) p.read
+      (λ before after takes. ap (reading shape) takes.1 ∙ takes.2 after)
+
   is : IsShape shape
   is = subst IsShape p.of_shape p.reached.parts.is_shape
 
@@ -91,7 +98,7 @@ module _ (shape : Shape) (number : ℕ) (world : Kept) (left mid taken all : Opt
       (λ before after. reading shape before ≡ after_events p.events (reading_from shape number (lines_of after)))
       (λ before after. (before ≡ []) × (after ≡ []))
       (λ bytes rest. PrintsReading shape None bytes taken all × (rest ≡ []))
-      p.read end
+      read_on end
       (λ a b c first second. (prints None a (at_end a b first second.0), second.1))
 
   ended : (old now : Option (List ℕ)) → WhereBothTold old now (λ before after. (before ≡ []) × (after ≡ [])) → IfSome old (λ bytes. bytes ≡ [])
@@ -105,7 +112,7 @@ module _ (shape : Shape) (number : ℕ) (world : Kept) (left mid taken all : Opt
     told_if left mid
         (λ before after. reading shape before ≡ after_events p.events (reading_from shape number (lines_of after)))
         (λ bytes. bytes ≡ []) (λ bytes. StandsFor world (reading shape bytes).events)
-        p.read (ended mid now end) (λ a b first second. stands_now None a (at_end a b first second)),
+        read_on (ended mid now end) (λ a b first second. stands_now None a (at_end a b first second)),
   )
 
   -- the next line is bad
@@ -116,7 +123,7 @@ module _ (shape : Shape) (number : ℕ) (world : Kept) (left mid taken all : Opt
       (λ before after. reading shape before ≡ after_events p.events (reading_from shape number (lines_of after)))
       (λ before. reading_from shape number (lines_of before) ≡ record { events = []; bad = Some number })
       (λ bytes. PrintsReading shape (Some number) bytes taken all)
-      p.read bad
+      read_on bad
       (λ a b first second. prints (Some number) a (first ∙ ap (after_events p.events) second))
 
   pub bad_hands_back : IfSome mid (λ before. reading_from shape number (lines_of before) ≡ record { events = []; bad = Some number }) → IsOfReading shape left (Some world)
@@ -126,5 +133,5 @@ module _ (shape : Shape) (number : ℕ) (world : Kept) (left mid taken all : Opt
         (λ before after. reading shape before ≡ after_events p.events (reading_from shape number (lines_of after)))
         (λ before. reading_from shape number (lines_of before) ≡ record { events = []; bad = Some number })
         (λ bytes. StandsFor world (reading shape bytes).events)
-        p.read bad (λ a b first second. stands_now (Some number) a (first ∙ ap (after_events p.events) second)),
+        read_on bad (λ a b first second. stands_now (Some number) a (first ∙ ap (after_events p.events) second)),
   )

@@ -1,5 +1,5 @@
 -- What a line that was read says of the whole input.
-use Rattle.std.proofs.Common.{◌≡◌, ◌⊎◌, inl, inr, true, false, ℕ, ◌+◌, ◌<◌, ◌≤◌, List, [], ◌∷◌, ◌++◌, length, ap, ◌∙◌, subst, arith, append-nil, Option, None, Some}
+use Rattle.std.proofs.Common.{◌≡◌, ◌⊎◌, inl, inr, true, false, ℕ, ◌+◌, ◌<◌, ◌≤◌, List, [], ◌∷◌, ◌++◌, length, refl, ap, ◌∙◌, subst, arith, append-nil, Option, None, Some}
 use Rattle.std.specs.Prelude.{IfSome}
 use Rattle.craft_base.specs.Shape.{Shape}
 use Rattle.world_model.specs.Schedule.{line_in, line_at, with_event, reading_with, reading_from, lines_of, most_lines, longest_line}
@@ -10,6 +10,7 @@ use Rattle.world_model.specs.declared.line.Line.{Line}
 use Rattle.line_input.proofs.Taking.{lines_taken}
 use Rattle.line_input.specs.Lines.{TakesLine, HasNoLineFeed}
 use Rattle.craft_edge.specs.Streams.{WhereBothTold}
+use Rattle.schedule_replay.specs.Replaying.{TakesLineOf}
 
 -- the reading of an input whose first line is bad
 abbrev pub BadFirst : Shape → ℕ → List ℕ → Type 0
@@ -46,12 +47,16 @@ bad_line shape number (Some before) (Some rest) text taken none =
 -- an event was read, and the rest is read after it
 pub event_line : (shape : Shape) (number : ℕ) (old new : Option (List ℕ)) (text : List ℕ) (event : Line) → TakesLine old new text LineFeed → number ≤ most_lines
     → line_in shape text ≡ Some event
-    → WhereBothTold old new (λ before after. reading_from shape number (lines_of before) ≡ with_event event (reading_from shape (number + 1) (lines_of after)))
+    → WhereBothTold old new (TakesLineOf shape number event)
 event_line shape number None new text event taken early says = tt
 event_line shape number (Some before) None text event taken early says = absurd taken.0
-event_line shape number (Some before) (Some rest) text event taken early says =
-    ap (reading_from shape number) (lines_taken before text rest taken.0 taken.1)
-    ∙ ap (λ said. reading_with number said (reading_from shape (number + 1) (lines_of rest))) (good_line shape number text taken.2 early ∙ says)
+event_line shape number (Some before) (Some left) text event taken early says = (
+  text ++ 10 ∷ [],
+  taken.0,
+  λ rest.
+      ap (reading_from shape number) (lines_taken ((text ++ 10 ∷ []) ++ rest) text rest refl taken.1)
+      ∙ ap (λ said. reading_with number said (reading_from shape (number + 1) (lines_of rest))) (good_line shape number text taken.2 early ∙ says),
+)
 
 -- any line past the last is bad
 pub late_line : (shape : Shape) (old new : Option (List ℕ)) (text : List ℕ) (end : LineEnd) → (end ≡ Broken) ⊎ (end ≡ LineFeed) → TakesLine old new text end

@@ -17,12 +17,17 @@ use Rattle.schedule_replay.specs.declared.replaying.Next.{Next}
 use Rattle.schedule_replay.specs.declared.replaying.Next.TheVariants as nexts
 use Rattle.schedule_replay.specs.Worlds.{Kept, StandsFor}
 
+-- The bytes are a good line, which says that event, and then those that are left: whatever follows the line is read behind it.
+abbrev pub TakesLineOf : Shape → ℕ → Line → (bytes left : List ℕ) → Type 0
+TakesLineOf shape number event bytes left =
+    (line : List ℕ) × (bytes ≡ line ++ left)
+    × ((rest : List ℕ) → reading_from shape number (lines_of (line ++ rest)) ≡ with_event event (reading_from shape (number + 1) (lines_of rest)))
+
 -- What comes next was read: a line in range, and then what is still to come; or the line with that number is bad; or there was no
 -- line any more.
 abbrev pub ReadsNext : Shape → ℕ → Option (List ℕ) → Option (List ℕ) → Next → Type 0
 ReadsNext shape number old new (nexts.Asked line) =
-    IsLineOf shape line
-    × WhereBothTold old new (λ before after. reading_from shape number (lines_of before) ≡ with_event line (reading_from shape (number + 1) (lines_of after)))
+    IsLineOf shape line × WhereBothTold old new (TakesLineOf shape number line)
 ReadsNext shape number old new nexts.Bad = IfSome old (λ before. reading_from shape number (lines_of before) ≡ record { events = []; bad = Some number })
 ReadsNext shape number old new nexts.End = WhereBothTold old new (λ before after. (before ≡ []) × (after ≡ []))
 
@@ -52,19 +57,12 @@ PrintsAll shape before after = WhereBothTold before.left after.left (λ bytes re
 abbrev pub PrintsUpTo : Shape → ℕ → Streams → Streams → Type 0
 PrintsUpTo shape line before after = IfSome before.left (λ bytes. PrintsReading shape (Some line) bytes before.taken after.taken)
 
--- a reading that begins with these events
-abbrev pub after_events : List Line → Reading → Reading
-after_events events rest = record rest { events = events ++ rest.events }
-
--- the bytes say these events first, and then what the bytes say that are left
-abbrev pub SaysFirst : Shape → List Line → (bytes left : List ℕ) → Type 0
-SaysFirst shape events bytes left = reading shape bytes ≡ after_events events (reading_from shape (1 + length events) (lines_of left))
-
 -- what was taken are good lines and then an unfinished one, and the text of the events of the good ones was written
 abbrev pub PrintsTaken : Shape → Streams → Streams → Type 0
 PrintsTaken shape before after =
     WhereBothTold before.left after.left (λ bytes rest.
-    (events : List Line) × (unfinished : List ℕ) × SaysFirst shape events bytes (unfinished ++ rest) × HasNoLineFeed unfinished
+    (events : List Line) × (good unfinished : List ℕ) × (bytes ≡ good ++ (unfinished ++ rest))
+    × (reading shape good ≡ record { events = events; bad = None }) × HasNoLineFeed unfinished
     × Appends before.taken after.taken (lines_of_run shape events))
 
 -- a first part of the text was written
@@ -103,6 +101,16 @@ HandsBack shape left End world = IsOfReading shape left world
 HandsBack shape left (Bad line) world = IsOfReading shape left world
 HandsBack shape left _ world = world ≡ None
 
+-- a reading that begins with these events
+abbrev pub after_events : List Line → Reading → Reading
+after_events events rest = record rest { events = events ++ rest.events }
+
+-- The bytes are good lines, which say these events, and then those that are left: whatever follows these lines is read behind them.
+abbrev pub TakesLinesOf : Shape → ℕ → List Line → (bytes left : List ℕ) → Type 0
+TakesLinesOf shape number events bytes left =
+    (good : List ℕ) × (bytes ≡ good ++ left)
+    × ((rest : List ℕ) → reading shape (good ++ rest) ≡ after_events events (reading_from shape number (lines_of rest)))
+
 -- So far these events were read, and were carried out and printed; the line with this number is the next.
 pub record Progress (shape : Shape) (number : ℕ) (world : Kept) (left now_left taken now_taken : Option (List ℕ)) : Type 0 where
   pub of_shape : world.shape ≡ shape
@@ -110,4 +118,4 @@ pub record Progress (shape : Shape) (number : ℕ) (world : Kept) (left now_left
   pub counted : number ≡ 1 + length events
   pub reached : StandsFor world events
   pub text : Appends taken now_taken (lines_of_run shape events)
-  pub read : WhereBothTold left now_left (λ before after. reading shape before ≡ after_events events (reading_from shape number (lines_of after)))
+  pub read : WhereBothTold left now_left (TakesLinesOf shape number events)
