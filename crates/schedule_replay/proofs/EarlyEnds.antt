@@ -2,19 +2,22 @@
 use Rattle.std.proofs.Common.{◌≡◌, ◌⊎◌, inl, inr, ℕ, ◌+◌, ◌≤◌, List, [], ◌∷◌, ◌++◌, length, take, refl, ap, sym, subst, ◌∙◌, arith, append_assoc, append-nil, length-append, Option, None, Some}
 use Rattle.std.specs.Prelude.{IfSome}
 use Rattle.std.specs.Io.KnownBytes.{Appends, Consumes, Keeps}
-use Rattle.std.proofs.KnownBytes.{Appends-trans, Keeps-refl}
+use Rattle.std.proofs.KnownBytes.{Appends-nil, Appends-trans, Keeps-refl}
 use Rattle.std.proofs.Math.Seq.{take-append-add}
 use Rattle.std.proofs.lemmas.List.{take-append-le}
-use Rattle.craft_base.specs.Shape.{Shape}
+use Rattle.bridge.proofs.Safe.{every_run_is_safe}
+use Rattle.craft_base.specs.Shape.{Shape, IsShape}
 use Rattle.craft_edge.specs.Bytes.{AppendsPrefix}
 use Rattle.craft_edge.specs.Causes.{Rose}
 use Rattle.craft_edge.specs.Streams.{Streams, WhereBothTold}
-use Rattle.craft_edge.proofs.StreamLemmas.{told_before, told_trans}
+use Rattle.craft_edge.proofs.StreamLemmas.{told_before, told_same, told_trans}
 use Rattle.line_input.specs.Lines.{HasNoLineFeed, TakesUnfinished}
+use Rattle.world_model.specs.Safety.{IsSafe}
 use Rattle.world_model.specs.Lines.{event_text, lines_from, lines_of_run}
 use Rattle.world_model.specs.Schedule.{reading, reading_from, lines_of}
 use Rattle.world_model.specs.World as model
 use Rattle.world_model.specs.declared.line.Line.{Line}
+use Rattle.world_model.proofs.Readings.{reading_in_range}
 use Rattle.world_model.proofs.Runs.{lines_from-append}
 use Rattle.schedule_replay.specs.Replaying.{EndsEarly, PrintsPart, PrintsSome, PrintsTaken, Progress, ReadsNone, TakesLineOf, TakesLinesOf, after_events}
 use Rattle.schedule_replay.proofs.Progressing.{read_on}
@@ -55,16 +58,45 @@ lines_from-front number w (event ∷ events) more =
     let here = event_text number w (model.step w event) in
     (next.0, ap (λ text. here ++ text) next.1 ∙ sym (append_assoc here (lines_from (number + 1) after events) next.0))
 
+-- what some bytes say is a safe run
+reading_is_safe : (shape : Shape) → IsShape shape → (bytes : List ℕ) → IsSafe shape (reading shape bytes).events
+reading_is_safe shape is bytes = every_run_is_safe shape (reading shape bytes).events (record { of_shape = is; in_range = reading_in_range shape bytes })
+
+-- nothing was read yet, and memory was wanting
+pub early_start : (shape : Shape) → IsShape shape → (left taken : Option (List ℕ)) (source sink : ℕ)
+    → PrintsSome shape (record { left = left; taken = taken; source_faults = source; sink_faults = sink }) (record { left = left; taken = taken; source_faults = source; sink_faults = sink })
+early_start shape is left taken source sink =
+    told_before left left (λ a b. Unit {0})
+    (λ bytes. (events more : List Line) × ((reading shape bytes).events ≡ events ++ more) × Appends taken taken (lines_of_run shape events) × IsSafe shape events)
+    (told_same left (λ a b. Unit {0}) (λ bytes. tt))
+    (λ bytes same any. ([], (reading shape bytes).events, refl, Appends-nil taken, reading_is_safe shape is []))
+
 module _ (shape : Shape) (number : ℕ) (world : Kept) (left mid taken written : Option (List ℕ)) (p : Progress shape number world left mid taken written) where
+  is : IsShape shape
+  is = subst IsShape p.of_shape p.reached.parts.is_shape
+
+  -- the good lines say the events so far
+  lines_say : (bytes rest : List ℕ) → (lines : TakesLinesOf shape number p.events bytes rest) → reading shape lines.0 ≡ record { events = p.events; bad = None }
+  lines_say bytes rest lines =
+      ap (reading shape) (sym (append-nil lines.0)) ∙ lines.2 [] ∙ ap (λ events. record { events = events; bad = None }) (append-nil p.events)
+
+  is_safe : (bytes rest : List ℕ) → TakesLinesOf shape number p.events bytes rest → IsSafe shape p.events
+  is_safe bytes rest lines = subst (IsSafe shape) (ap (λ r. r.events) (lines_say bytes rest lines)) (reading_is_safe shape is lines.0)
+
   -- the text of the events so far, and nothing more
   some_printed : (now all : Option (List ℕ)) → Keeps written all → (first last : ℕ) (a b : ℕ)
       → PrintsSome shape (record { left = left; taken = taken; source_faults = a; sink_faults = b }) (record { left = now; taken = all; source_faults = first; sink_faults = last })
   some_printed now all keeps first last a b =
-      told_before left mid
-      (λ before after. reading shape before ≡ after_events p.events (reading_from shape number (lines_of after)))
-      (λ bytes. (events more : List Line) × ((reading shape bytes).events ≡ events ++ more) × Appends taken all (lines_of_run shape events))
-      (read_on shape number world left mid taken written p)
-      (λ before after is. (p.events, (reading_from shape number (lines_of after)).events, ap (λ r. r.events) is, kept_on taken written all (lines_of_run shape p.events) p.text keeps))
+      told_before left mid (TakesLinesOf shape number p.events)
+      (λ bytes. (events more : List Line) × ((reading shape bytes).events ≡ events ++ more) × Appends taken all (lines_of_run shape events) × IsSafe shape events)
+      p.read
+      (λ before after lines. (
+        p.events,
+        (reading_from shape number (lines_of after)).events,
+        ap (λ bytes. (reading shape bytes).events) lines.1 ∙ ap (λ r. r.events) (lines.2 after),
+        kept_on taken written all (lines_of_run shape p.events) p.text keeps,
+        is_safe before after lines,
+      ))
 
   -- the lines so far were taken, and then an unfinished one
   taken_printed : (now : Option (List ℕ)) → TakesUnfinished mid now → (first last : ℕ) (a b : ℕ)
@@ -73,16 +105,17 @@ module _ (shape : Shape) (number : ℕ) (world : Kept) (left mid taken written :
       told_trans left mid now (TakesLinesOf shape number p.events) (λ before after. before ≡ text ++ after)
       (λ bytes rest.
       (events : List Line) × (good unfinished : List ℕ) × (bytes ≡ good ++ (unfinished ++ rest)) × (reading shape good ≡ record { events = events; bad = None })
-      × HasNoLineFeed unfinished × Appends taken written (lines_of_run shape events))
+      × HasNoLineFeed unfinished × Appends taken written (lines_of_run shape events) × IsSafe shape events)
       p.read (consumed mid now text takes)
       (λ bytes between rest lines left_is. (
         p.events,
         lines.0,
         text,
         lines.1 ∙ ap (λ it. lines.0 ++ it) left_is,
-        ap (reading shape) (sym (append-nil lines.0)) ∙ lines.2 [] ∙ ap (λ events. record { events = events; bad = None }) (append-nil p.events),
+        lines_say bytes between lines,
         none,
         p.text,
+        is_safe bytes between lines,
       ))
 
   -- no line was taken
@@ -116,7 +149,8 @@ module _ (shape : Shape) (number : ℕ) (world : Kept) (left mid taken written :
         let is : lines_of_run shape (events ++ rest) ≡ (lines_of_run shape p.events ++ text shape (1 + length p.events)) ++ more.0 =
         more.1 ∙ ap (λ it. it ++ more.0) (lines_from-append 1 (model.start shape) p.events event) in
         subst (AppendsPrefix taken all) (sym is) (part_behind taken written all (lines_of_run shape p.events) (text shape (1 + length p.events)) more.0 p.text next) in
-        told_before left now (λ bytes rest. AppendsPrefix taken all (lines_of_run shape (reading shape bytes).events)) (λ bytes. AppendsPrefix taken all (lines_of_run shape (reading shape bytes).events))
+        told_before left now (λ bytes rest. AppendsPrefix taken all (lines_of_run shape (reading shape bytes).events))
+        (λ bytes. AppendsPrefix taken all (lines_of_run shape (reading shape bytes).events) × IsSafe shape (reading shape bytes).events)
         (told_trans left mid now
         (λ before after. reading shape before ≡ after_events p.events (reading_from shape number (lines_of after)))
         (TakesLineOf shape number event)
@@ -127,7 +161,7 @@ module _ (shape : Shape) (number : ℕ) (world : Kept) (left mid taken written :
         let is : (reading shape bytes).events ≡ events ++ rest =
         ap (λ r. r.events) first_is ∙ ap (λ it. p.events ++ (reading_from shape number (lines_of it)).events) line.1 ∙ ap (λ r. p.events ++ r.events) (line.2 left_now) ∙ sym (append_assoc p.events (event ∷ []) rest) in
         subst (λ es. AppendsPrefix taken all (lines_of_run shape es)) (sym is) (whole rest)))
-        (λ bytes rest is. is)
+        (λ bytes rest part_of. (part_of, reading_is_safe shape is bytes))
 
     -- a line was taken, and its event wasn't carried out, or its text wasn't written whole
     pub early_print :

@@ -57,23 +57,26 @@ PrintsAll shape before after = WhereBothTold before.left after.left (λ bytes re
 abbrev pub PrintsUpTo : Shape → ℕ → Streams → Streams → Type 0
 PrintsUpTo shape line before after = IfSome before.left (λ bytes. PrintsReading shape (Some line) bytes before.taken after.taken)
 
--- what was taken are good lines and then an unfinished one, and the text of the events of the good ones was written
+-- what was taken are good lines and then an unfinished one, and the text of the events of the good ones was written; their run is safe
 abbrev pub PrintsTaken : Shape → Streams → Streams → Type 0
 PrintsTaken shape before after =
     WhereBothTold before.left after.left (λ bytes rest.
     (events : List Line) × (good unfinished : List ℕ) × (bytes ≡ good ++ (unfinished ++ rest))
     × (reading shape good ≡ record { events = events; bad = None }) × HasNoLineFeed unfinished
-    × Appends before.taken after.taken (lines_of_run shape events))
+    × Appends before.taken after.taken (lines_of_run shape events) × IsSafe shape events)
 
--- a first part of the text was written
+-- a first part of the text was written, of a run that is safe
 abbrev pub PrintsPart : Shape → Streams → Streams → Type 0
-PrintsPart shape before after = IfSome before.left (λ bytes. AppendsPrefix before.taken after.taken (lines_of_run shape (reading shape bytes).events))
+PrintsPart shape before after =
+    IfSome before.left (λ bytes.
+    AppendsPrefix before.taken after.taken (lines_of_run shape (reading shape bytes).events) × IsSafe shape (reading shape bytes).events)
 
--- the text of the first so many events was written
+-- the text of the first so many events was written, and their run is safe
 abbrev pub PrintsSome : Shape → Streams → Streams → Type 0
 PrintsSome shape before after =
     IfSome before.left (λ bytes.
-    (events more : List Line) × ((reading shape bytes).events ≡ events ++ more) × Appends before.taken after.taken (lines_of_run shape events))
+    (events more : List Line) × ((reading shape bytes).events ≡ events ++ more) × Appends before.taken after.taken (lines_of_run shape events)
+    × IsSafe shape events)
 
 -- how a replay ends early: by a device that failed, or for want of memory
 abbrev pub EndsEarly : Shape → Streams → Streams → ReplayEnd → Type 0

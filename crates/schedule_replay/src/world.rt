@@ -46,6 +46,8 @@ impl Model for World {
 impl World {
     /// A cluster of which each member runs, and none has ever run before. The only error is want of memory.
     pub fn new(alloc: Global, shape: &Shape) -> Result<World, OutOfMemory>
+        // The numbers of the shape are in range, also where memory is wanting.
+        ensures known { IsShape shape.now }
         ensures shape { IfOk result (λ world. world.shape ≡ shape.now) }
         ensures start { IfOk result (λ world. StandsFor world []) }
     {

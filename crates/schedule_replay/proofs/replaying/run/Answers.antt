@@ -2,7 +2,7 @@ use Rattle.std.proofs.Common.{◌≡◌, arith, subst}
 use Rattle.std.proofs.lemmas.Result.{err_from_is_err_and}
 use Rattle.schedule_replay.specs.Replaying.{Progress, ReadsNext, end_or_bad}
 use Rattle.schedule_replay.proofs.Progressing.{bad_hands_back, ended_hands_back, ends_badly, ends_well, goes_on}
-use Rattle.schedule_replay.proofs.EarlyEnds.{early_print, early_read}
+use Rattle.schedule_replay.proofs.EarlyEnds.{early_print, early_read, early_start}
 use Rattle.schedule_replay.proofs.replaying.run.Goals as goal
 
 pub returns-in-End-clause-done : goal.returns-in-End-clause-done
@@ -99,3 +99,8 @@ returns-in_err-world-in-Asked-clause-early g c =
     c.in-Asked.asked (g.S.Source.left c.next_line.new.src) (g.O.Sink.taken c.print_event.new.out) read.1
     (g.S.Source.faults c.args.src.now) (g.O.Sink.faults c.args.out.now) (g.S.Source.faults l.src) (g.O.Sink.faults l.out)
     (g.S.Source.faults c.next_line.new.src) (g.O.Sink.faults c.print_event.new.out) c.in_err-world-in-Asked.field-0.0 l.invariant.later_sink e.failed e.kept e.part)
+
+pub returns-in_err-world-clause-early : goal.returns-in_err-world-clause-early
+returns-in_err-world-clause-early g c =
+    let p = err_from_is_err_and c.from_residual.result c.from_residual.ensures.1 in
+    rw (p.1, p.2) (early_start c.args.shape.now c.new.ensures.known (g.S.Source.left c.args.src.now) (g.O.Sink.taken c.args.out.now) (g.S.Source.faults c.args.src.now) (g.O.Sink.faults c.args.out.now))
