@@ -233,51 +233,64 @@ fn the_greatest_number_of_a_client_is_kept(rt: HostRuntime) -> Result<(), Fail> 
     Ok(())
 }
 
-// Each byte is a key. So are two of 255 bytes, which differ in the last, and the front of both.
 #[test]
-fn keys_are_told_apart_by_each_byte(rt: HostRuntime) -> Result<(), Fail> {
+fn each_byte_is_a_key(rt: HostRuntime) -> Result<(), Fail> {
     let alloc = rt.alloc();
     let mut bytes = Vec::new(alloc);
-    let mut key = Vec::new(alloc);
     for byte in 0..=255_u8 {
         add_entry(&mut bytes, Op::Put, 1, u64::from(byte) + 1, &[byte])?;
-        if byte < 254 {
-            key.push(byte)?;
-        }
     }
-    add_entry(&mut bytes, Op::Put, 1, 257, &key)?;
-    key.push(254)?;
-    add_entry(&mut bytes, Op::Put, 1, 258, &key)?;
-    key.pop();
-    key.push(255)?;
-    add_entry(&mut bytes, Op::Get, 1, 259, &key)?;
-    add_entry(&mut bytes, Op::Put, 1, 260, &key)?;
-    key.pop();
     for byte in 0..=255_u8 {
         add_entry(&mut bytes, Op::Get, 2, u64::from(byte) + 1, &[byte])?;
     }
-    add_entry(&mut bytes, Op::Get, 3, 1, &key)?;
-    key.push(254)?;
-    add_entry(&mut bytes, Op::Get, 3, 2, &key)?;
-    key.pop();
-    key.push(255)?;
-    add_entry(&mut bytes, Op::Get, 3, 3, &key)?;
     let (_service, outcomes) = applied(alloc, &bytes)?;
     for byte in 0..256_usize {
         let version = byte as u64 + 1;
         assert_eq!(rt; outcomes.get(byte).copied(), Some(Outcome::Done(version)));
         assert_eq!(rt;
-            outcomes.get(260 + byte).copied(),
+            outcomes.get(256 + byte).copied(),
             Some(Outcome::Found(version))
         );
     }
-    assert_eq!(rt; outcomes.get(258).copied(), Some(Outcome::Nothing));
-    assert_eq!(rt; outcomes.get(516).copied(), Some(Outcome::Found(257)));
-    assert_eq!(rt; outcomes.get(517).copied(), Some(Outcome::Found(258)));
-    assert_eq!(rt; outcomes.get(518).copied(), Some(Outcome::Found(260)));
-    assert_eq!(rt; outcomes.get(256).copied(), Some(Outcome::Done(257)));
-    assert_eq!(rt; outcomes.get(257).copied(), Some(Outcome::Done(258)));
-    assert_eq!(rt; outcomes.get(259).copied(), Some(Outcome::Done(260)));
-    assert_eq!(rt; outcomes.len(), 519);
+    assert_eq!(rt; outcomes.len(), 512);
+    Ok(())
+}
+
+/// A key of 255 bytes: those from 0 to 253, and then that one.
+fn long_key(alloc: Global, last: u8) -> Result<Vec<u8>, Fail> {
+    let mut key = Vec::new(alloc);
+    for byte in 0..254_u8 {
+        key.push(byte)?;
+    }
+    key.push(last)?;
+    Ok(key)
+}
+
+// Two keys of 255 bytes that differ in the last, and the front of both.
+#[test]
+fn long_keys_are_told_apart_by_each_byte(rt: HostRuntime) -> Result<(), Fail> {
+    let alloc = rt.alloc();
+    let one = long_key(alloc, 254)?;
+    let other = long_key(alloc, 255)?;
+    let front = one.get(..254).ok_or("no front")?;
+    let mut bytes = Vec::new(alloc);
+    add_entry(&mut bytes, Op::Put, 1, 1, front)?;
+    add_entry(&mut bytes, Op::Put, 1, 2, &one)?;
+    add_entry(&mut bytes, Op::Get, 1, 3, &other)?;
+    add_entry(&mut bytes, Op::Put, 1, 4, &other)?;
+    add_entry(&mut bytes, Op::Get, 2, 1, front)?;
+    add_entry(&mut bytes, Op::Get, 2, 2, &one)?;
+    add_entry(&mut bytes, Op::Get, 2, 3, &other)?;
+    let (_service, outcomes) = applied(alloc, &bytes)?;
+    let wanted = [
+        Outcome::Done(1),
+        Outcome::Done(2),
+        Outcome::Nothing,
+        Outcome::Done(4),
+        Outcome::Found(1),
+        Outcome::Found(2),
+        Outcome::Found(4),
+    ];
+    assert_eq!(rt; outcomes.as_slice(), wanted.as_slice());
     Ok(())
 }
