@@ -5,7 +5,9 @@ pub mod Cutting
 pub mod Taken
 pub mod Plain
 pub mod Sent
+pub mod Adding
 pub mod Leading
+pub mod Called
 pub mod Committed
 pub mod Append
 pub mod Turn

@@ -1,13 +1,20 @@
--- Runs of three members: in one a member is elected, in one an entry is committed, in one an entry is removed.
-use Rattle.std.proofs.Common.{ℕ, ◌<◌, ◌≤◌, List, [], ◌∷◌, refl, inl, arith}
+-- Runs of three members: in one a member is elected, in one an entry is committed, in one an entry is removed, in one a client is
+-- answered.
+use Rattle.std.proofs.Common.{ℕ, zero, suc, ◌<◌, ◌≤◌, List, [], ◌∷◌, slice_index, refl, inl, arith}
 use Rattle.std.specs.List.{All}
+use Rattle.std.proofs.lemmas.Bool.{true≢false}
 use Rattle.std.proofs.lemmas.List.Elements.{All-nil, All-cons}
+use Rattle.craft_base.specs.declared.command.Op.{Op}
+use Rattle.craft_base.specs.declared.command.Op.TheVariants.{Put, Get}
+use Rattle.craft_base.specs.declared.command.Request.{Request}
+use Rattle.entry_frames.specs.Formats.{AreBytes}
+use Rattle.world_model.specs.Calls.{IsRequest}
 use Rattle.world_model.specs.Safety.{IsRun}
 use Rattle.world_model.specs.Spelling.{IsLineOf}
-use Rattle.world_model.specs.declared.line.Inner.TheVariants.{Tick, Take}
+use Rattle.world_model.specs.declared.line.Inner.TheVariants.{Tick, Take, Call}
 use Rattle.world_model.specs.declared.line.Line.{Line}
 use Rattle.world_model.specs.declared.line.Line.TheVariants.{Do}
-use Rattle.bridge.specs.Laws.{SomeRunCommits, SomeRunElects, SomeRunRemoves, three}
+use Rattle.bridge.specs.Laws.{SomeRunAnswers, SomeRunCommits, SomeRunElects, SomeRunRemoves, three}
 
 -- lines in range
 record InRange (events : List Line) : Type 0 where
@@ -68,3 +75,66 @@ second_in_range =
 pub some_run_removes : SomeRunRemoves
 some_run_removes =
     (election second, _, _, _, _, runs (elects second_in_range), inl refl, inl refl, omega arith, refl, refl, λ e. absurd (omega (arith, e)))
+
+-- ---- a client
+
+-- what client 7 asks for, of one key
+abbrev asks : (seq : ℕ) → Op → List ℕ → Request
+asks seq op value = record { client = 7; seq = seq; op = op; key = 97 ∷ []; value = value }
+
+one_byte : (byte : ℕ) → byte < 256 → {bytes : List ℕ} → AreBytes bytes → AreBytes (byte ∷ bytes)
+one_byte byte lt {bytes = bytes} are = record { each = at } where
+  at : (i : ℕ) → slice_index (byte ∷ bytes) i < 256
+  at zero = lt
+  at (suc i) = are.each i
+
+no_bytes : AreBytes []
+no_bytes = record { each = λ i. omega arith }
+
+-- whatever it asks for, with no value, or with two bytes where one is set
+put_in_range : IsRequest (asks 1 Put (1 ∷ 2 ∷ []))
+put_in_range = record {
+  client = (omega arith, omega arith);
+  seq = (omega arith, omega arith);
+  asked = refl;
+  expected = omega arith;
+  key = (omega arith, omega arith);
+  value = omega arith;
+  sets = λ none. absurd (true≢false none);
+  key_bytes = one_byte 97 (omega arith) no_bytes;
+  value_bytes = one_byte 1 (omega arith) (one_byte 2 (omega arith) no_bytes);
+}
+
+get_in_range : IsRequest (asks 2 Get [])
+get_in_range = record {
+  client = (omega arith, omega arith);
+  seq = (omega arith, omega arith);
+  asked = refl;
+  expected = omega arith;
+  key = (omega arith, omega arith);
+  value = omega arith;
+  sets = λ none. refl;
+  key_bytes = one_byte 97 (omega arith) no_bytes;
+  value_bytes = no_bytes;
+}
+
+calls : {events : List Line} (request : Request) → IsRequest request → InRange events → InRange (Do (Call 0 request) ∷ events)
+calls {events = events} request is rest =
+    record { all = All-cons (IsLineOf three) (Do (Call 0 request)) events (omega arith, omega arith, is) rest.all }
+
+-- Member 0 is elected, and member 1 takes its empty entry. It adds a put; member 1 takes it, and it is committed. It adds a get, which
+-- member 1 takes too. The put is asked again.
+abbrev clients : List Line
+clients = election
+    (Do (Call 0 (asks 1 Put (1 ∷ 2 ∷ []))) ∷ Do (Take 4) ∷ Do (Take 6) ∷ Do (Take 7) ∷ Do (Take 8) ∷ Do (Call 0 (asks 2 Get [])) ∷ Do (Take 9) ∷ Do (Take 10)
+    ∷ Do (Call 0 (asks 1 Put (1 ∷ 2 ∷ []))) ∷ [])
+
+clients_in_range : InRange clients
+clients_in_range =
+    elects (calls (asks 1 Put (1 ∷ 2 ∷ [])) put_in_range
+    (takes 4 (omega arith) (omega arith) (takes 6 (omega arith) (omega arith) (takes 7 (omega arith) (omega arith) (takes 8 (omega arith) (omega arith)
+    (calls (asks 2 Get []) get_in_range (takes 9 (omega arith) (omega arith) (takes 10 (omega arith) (omega arith)
+    (calls (asks 1 Put (1 ∷ 2 ∷ [])) put_in_range no_more)))))))))
+
+pub some_run_answers : SomeRunAnswers
+some_run_answers = (clients, _, _, _, runs clients_in_range, refl, refl, refl, omega arith, refl, refl, refl, refl)

@@ -22,6 +22,7 @@ pub mod World
 pub mod Runs
 pub mod Leaders
 pub mod Growing
+pub mod Replies
 pub mod Furthest
 pub mod Safe
 pub mod Examples

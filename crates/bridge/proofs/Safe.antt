@@ -1,16 +1,14 @@
 -- Every run is safe: one list of commands is committed, it stays, no entry is removed that a leader of the remover's term or of a lower
--- one commits, and no term has two leaders.
+-- one commits, clients are answered as by one map that took the list, and no term has two leaders.
 use Rattle.std.proofs.Common.{◌≡◌, ◌≢◌, ℕ, zero, suc, ◌+◌, ◌<◌, ◌≤◌, List, [], ◌∷◌, ◌++◌, length, take, drop, None, Some, slice_get, refl, sym, ap, subst, ◌∙◌, inl, inr, arith, le_refl, length-take-le}
-use Rattle.std.specs.List.{All}
 use Rattle.std.proofs.lemmas.Bool.{cases_lt}
 use Rattle.std.proofs.lemmas.List.{take-append-drop, take_all}
-use Rattle.std.proofs.lemmas.List.Elements.{All-head, All-tail}
 use Rattle.std.proofs.lemmas.Option.{same_Some, slice_get_past, slice_get_within}
 use Rattle.craft_base.specs.Shape.{Shape}
 use Rattle.craft_base.specs.declared.command.Entry.{Entry}
 use Rattle.entry_frames.specs.Durable.{Durable, born}
 use Rattle.entry_frames.specs.Logs as node
-use Rattle.world_model.specs.Safety.{HoldsCommitted, IsFront, IsIn, IsRun, IsSafe, RemovesUncommitted, StaysCommitted, command_in, commands_of, committed, furthest}
+use Rattle.world_model.specs.Safety.{HoldsCommitted, IsFront, IsRun, IsSafe, RemovesUncommitted, StaysCommitted, command_in, commands_of, committed, furthest}
 use Rattle.world_model.specs.Traces.{Proposal}
 use Rattle.world_model.specs.World.{World, run, run_from, start}
 use Rattle.world_model.specs.declared.line.Line.{Line}
@@ -27,23 +25,12 @@ use Rattle.bridge.proofs.Book.Standing.{command_in_more, stand_place, stand_take
 use Rattle.bridge.proofs.Furthest.{IsCommitted, at_position, furthest_committed, furthest_each, member_committed}
 use Rattle.bridge.proofs.Growing.{HasMore, run_grows}
 use Rattle.bridge.proofs.Leaders.{one_leader_a_term}
+use Rattle.bridge.proofs.Replies.Lists.{is_in, taken_there}
+use Rattle.bridge.proofs.Replies.Runs.{answers_as_one_map, run_answers, start_answers}
 use Rattle.bridge.proofs.Runs.{history_reached, moves_between, runs_are_bridged}
 use Rattle.bridge.proofs.Views.{term_at_seen}
 
 -- ---- lists
-
-taken_there : {X : Type 0} (n : ℕ) (xs : List X) (i : ℕ) → i < n → slice_get (take n xs) i ≡ slice_get xs i
-taken_there zero xs i lt = absurd (omega (arith, lt))
-taken_there (suc n) [] i lt = refl
-taken_there (suc n) (x ∷ xs) zero lt = refl
-taken_there (suc n) (x ∷ xs) (suc i) lt = taken_there n xs i (omega (arith, lt))
-
-is_in : {X : Type 0} (P : X → Type 0) (xs : List X) → All P xs → (x : X) → IsIn x xs → P x
-is_in P [] all x among = absurd among
-is_in P (first ∷ xs) all x among = elim among [
-  | inl same ↦ subst P (sym same) (All-head P first xs all)
-  | inr later ↦ is_in P xs (All-tail P first xs all) x later
-]
 
 commands_there :
     (book : List Proposal) (index : ℕ) (log : List Entry) (place : ℕ) (entry : Entry) → slice_get log place ≡ Some entry →
@@ -177,5 +164,9 @@ every_run_is_safe shape events is =
       one_list = holds_committed reached agrees;
       stays = stays_committed r;
       removes = removes_uncommitted reached agrees;
+      replies =
+          answers_as_one_map reached agrees
+          (run_answers shape (committed (run shape events)) events (start shape) (start_answers shape (committed (run shape events))) is.in_range
+          (λ count. holds_committed (end_reached r count) (r.agrees count)) (stays_committed r));
       one_leader = one_leader_a_term shape events is;
     }

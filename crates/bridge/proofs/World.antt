@@ -20,6 +20,7 @@ use Rattle.protocol.proofs.Runs.{moves_trans}
 use Rattle.bridge.specs.Agreement.{HeardAgrees, MessageAgrees, NodeAgrees, WorldAgrees}
 use Rattle.bridge.specs.Bridges.{TurnBridged, WorldBridged}
 use Rattle.bridge.specs.Traced.{AllStand, MessageStands}
+use Rattle.bridge.proofs.Book.Called.{call_turned}
 use Rattle.bridge.proofs.Book.Turn.{message_turned, tick_turned}
 use Rattle.bridge.proofs.Members.{changed_bridged, turned_bridged}
 use Rattle.bridge.proofs.Restarting.{restarted_agrees, restarts}
@@ -42,6 +43,8 @@ module _
     aim_agrees : (inner : Inner) (aim : Aim) → aim_of w inner ≡ Some aim → IsTold shape g w.book aim
     aim_agrees (inners.Tick member word) aim e = subst (IsTold shape g w.book) (same_Some _ _ e)
         (λ n agrees stand. tick_turned word reached agrees stand)
+    aim_agrees (inners.Call member request) aim e = subst (IsTold shape g w.book) (same_Some _ _ e)
+        (λ n agrees stand. call_turned n reached agrees stand a.proposals request.client request is)
     aim_agrees (inners.Take frame) aim e = delivered (slice_get w.sent (frame - 1)) refl e where
       delivered :
           (found : Option Message) → slice_get w.sent (frame - 1) ≡ found → option_map delivery_of found ≡ Some aim → IsTold shape g w.book aim

@@ -4,7 +4,7 @@
 //! argument.
 #![tactic(auto)]
 
-ghost use Rattle.bridge.specs.Laws.{OneLeaderInEveryRun, RunsAreBridged, SomeRunCommits, SomeRunElects, SomeRunRemoves};
+ghost use Rattle.bridge.specs.Laws.{OneLeaderInEveryRun, RunsAreBridged, SomeRunAnswers, SomeRunCommits, SomeRunElects, SomeRunRemoves};
 
 /// Every run of a cluster is a run of the protocol: after each front of the events there is a history, made of the one before
 /// by moves, with which each member and each message that was ever sent agrees.
@@ -27,4 +27,9 @@ pub fn some_run_elects()
 pub fn some_run_commits()
     ensures commits { SomeRunCommits }
     ensures removes { SomeRunRemoves }
+{}
+
+/// There is a run in which a client is told that its put was done, what it set, and that the number of its put is old.
+pub fn some_run_answers()
+    ensures { SomeRunAnswers }
 {}

@@ -33,12 +33,18 @@ event a line, and each line ends with a line feed alone:
   tick i word   time passes at member i, 0 to 2F; with a word from 0 to 2^64-1
                 it stands for election after 3 + word mod 8 quiet ticks
   take m        frame m, 1 to 2^64-1, is delivered; it may be taken again
+  call i client seq op key value
+                a client asks member i, with its number and its number for the
+                request, both 1 to 2^62; op is put, putif=V (where the key has
+                version V, 0 for none), del or get; the key, 1 to 255 bytes, and
+                the value, up to 32,768, are in lower case hexadecimal digits;
+                value is - for no bytes, and for del and get
   down i        member i goes down between two turns
   up i          member i starts anew over what its disk holds
   show i        what outlives a crash of member i is printed, where it runs
-  stop c b e    e, a tick or a take line, happens, and the machine stops in its
-                device call c, 1 to 4; what is pending on the disk is kept where
-                b is 1, and spoiled where it is 0; the member is then down
+  stop c b e    e, a tick, take or call line, happens, and the machine stops in
+                its device call c, 1 to 4; what is pending on the disk is kept
+                where b is 1, and spoiled where it is 0; the member is then down
 
 split prints the fragments of a value of at most 32,768 bytes, one a line. join
 reads such lines, the value line and any k fragments or more, and writes the

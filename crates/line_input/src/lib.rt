@@ -7,7 +7,7 @@ mod line;
 mod numeral;
 mod split;
 
-pub use digits::digits_of;
+pub use digits::{bytes_of, digits_of};
 pub use fault::InputFault;
 pub use line::{LineEnd, read_line};
 pub use numeral::number;

@@ -69,3 +69,25 @@ fn bytes_are_a_word(rt: HostRuntime) -> Result<(), Fail> {
     }
     Ok(())
 }
+
+#[test]
+fn a_word_is_bytes(rt: HostRuntime) -> Result<(), Fail> {
+    // At most two bytes are read.
+    let table: [(&[u8], Option<&[u8]>); 9] = [
+        (b"-", Some(b"")),
+        (b"80", Some(&[0x80])),
+        (b"00af", Some(&[0x00, 0xaf])),
+        (b"0080af", None),
+        (b"", None),
+        (b"8", None),
+        (b"008", None),
+        (b"AF", None),
+        (b"0g", None),
+    ];
+    for (word, want) in table {
+        let found = bytes_of(rt.alloc(), 2, word)?;
+        let bytes = found.as_ref().map(|found| found.as_bytes());
+        assert_eq!(rt; bytes, want, "at {word:?}");
+    }
+    Ok(())
+}

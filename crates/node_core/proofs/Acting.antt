@@ -58,6 +58,7 @@ stays_acted act n is = record {
   records = sym (append-nil act.group);
   cuts = sym (append-nil act.cuts.items);
   wholes = sym (append-nil act.wholes.items);
+  replies = sym (append-nil act.replies.items);
   sends = sym (append-nil act.sends.items);
 }
 
@@ -91,6 +92,7 @@ acted_after act rule before between after first second =
       wholes =
           added_twice before.wholes.items between.wholes.items after.wholes.items (whole_indexes act.records) (whole_indexes next.records) first.wholes second.wholes
           ∙ ap (λ xs. before.wholes.items ++ xs) (sym (wholes-append act.records next.records));
+      replies = added_twice before.replies.items between.replies.items after.replies.items act.replies next.replies first.replies second.replies;
       sends = added_twice before.sends.items between.sends.items after.sends.items act.sends next.sends first.sends second.sends;
     }
 
@@ -106,6 +108,7 @@ sent_after act sends before between after first second = record {
   records = added_once before.group between.group after.group (record_spellings before.member.store.shape.need act.records) first.records second.records;
   cuts = added_once before.cuts.items between.cuts.items after.cuts.items (cut_indexes act.records) first.cuts second.cuts;
   wholes = added_once before.wholes.items between.wholes.items after.wholes.items (whole_indexes act.records) first.wholes second.wholes;
+  replies = added_once before.replies.items between.replies.items after.replies.items act.replies first.replies second.replies;
   sends = added_twice before.sends.items between.sends.items after.sends.items act.sends sends first.sends second.sends;
 }
 
@@ -121,6 +124,7 @@ moved_after act node before between after first only store is = record {
   records = ap (λ (a : Act). a.group) only ∙ first.records;
   cuts = ap (λ (a : Act). a.cuts.items) only ∙ first.cuts;
   wholes = ap (λ (a : Act). a.wholes.items) only ∙ first.wholes;
+  replies = ap (λ (a : Act). a.replies.items) only ∙ first.replies;
   sends = ap (λ (a : Act). a.sends.items) only ∙ first.sends;
 }
 
@@ -146,6 +150,7 @@ acted_from act before between after only store acted = record {
   records = acted.records ∙ ap (λ s. between.group ++ record_spellings s.shape.need act.records) store ∙ ap (λ (a : Act). a.group ++ record_spellings before.member.store.shape.need act.records) only;
   cuts = acted.cuts ∙ ap (λ (a : Act). a.cuts.items ++ cut_indexes act.records) only;
   wholes = acted.wholes ∙ ap (λ (a : Act). a.wholes.items ++ whole_indexes act.records) only;
+  replies = acted.replies ∙ ap (λ (a : Act). a.replies.items ++ act.replies) only;
   sends = acted.sends ∙ ap (λ (a : Act). a.sends.items ++ act.sends) only;
 }
 
@@ -164,5 +169,6 @@ recorded_after n records more before between after first second =
       records = both.records;
       cuts = both.cuts;
       wholes = both.wholes;
+      replies = both.replies;
       sends = both.sends;
     }

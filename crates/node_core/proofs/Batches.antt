@@ -1,5 +1,6 @@
 -- The entries that are sent to a member.
 use Rattle.std.proofs.Common.{◌≡◌, ◌≢◌, ◌∷◌, [], ◌-◌, ◌∙◌, ℕ, List, length, refl, ap}
+use Rattle.std.proofs.lemmas.List.{nil_from_length}
 use Rattle.craft_base.specs.declared.command.Entry.{Entry}
 use Rattle.entry_frames.specs.Logs.{term_at}
 use Rattle.entry_frames.specs.declared.peer.Peer.TheVariants.{Append}
@@ -31,3 +32,6 @@ with_some n member (entry ∷ entries) some = refl
 
 pub any_sent : (n : Node) (member : ℕ) → length (whole_batch n.shape.need n.durable.log (start_of n member)) ≢ 0 → append_if_any n member ≡ append_to n member ∷ []
 any_sent n member some = with_some n member (whole_batch n.shape.need n.durable.log (start_of n member)) some
+
+pub none_sent : (n : Node) (member : ℕ) → length (whole_batch n.shape.need n.durable.log (start_of n member)) ≡ 0 → append_if_any n member ≡ []
+none_sent n member none = ap (append_with n member) (nil_from_length (whole_batch n.shape.need n.durable.log (start_of n member)) none)

@@ -4,11 +4,10 @@ use Rattle.std.proofs.lemmas.Bool.{lt-ltb}
 use Rattle.std.specs.Prelude.{cond}
 use Rattle.craft_base.specs.Knowledge.{Heard}
 use Rattle.craft_base.specs.Shape.{Shape}
-use Rattle.entry_frames.specs.Records.{Commit}
 use Rattle.heard_book.specs.Kept as known
 use Rattle.world_model.specs.Nodes.{Node}
-use Rattle.world_model.specs.Rules.Acts.{recording, stays}
-use Rattle.world_model.specs.Rules.Applying.{act_of_commit}
+use Rattle.world_model.specs.Rules.Acts.{stays}
+use Rattle.world_model.specs.Rules.Applying.{act_of_applying, act_of_commit}
 use Rattle.node_core.specs.declared.member.Member.{Member}
 use Rattle.node_core.specs.Acting.{IsNode}
 
@@ -27,8 +26,10 @@ knows_node m heard list n is stands settled =
         of_hint = s.of_hint;
         of_heard = stands;
         settled = settled;
+        of_calls = s.of_calls;
       };
       of_store = is.of_store;
+      of_service = is.of_service;
     }
 
 -- what is known below the commit index may be forgotten
@@ -40,5 +41,5 @@ settled_node m heard index n is le settled still =
     knows_node m heard n.volatile.heard n is (still n.shape n.volatile.heard n.volatile.first s.of_heard) (omega (arith, settled, s.settled, le))
 
 -- the commit index grows
-pub grows : (n : Node) (index : ℕ) → n.durable.commit < index → act_of_commit index n ≡ recording (Commit index) (stays n)
-grows n index lt = ap (λ b. cond b (recording (Commit index) (stays n)) (stays n)) (lt-ltb n.durable.commit index lt)
+pub grows : (n : Node) (index : ℕ) → n.durable.commit < index → act_of_commit index n ≡ act_of_applying index n
+grows n index lt = ap (λ b. cond b (act_of_applying index n) (stays n)) (lt-ltb n.durable.commit index lt)

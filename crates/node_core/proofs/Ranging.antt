@@ -35,12 +35,12 @@ module _ {shape : Shape} {member : ℕ} {n : Node} (a : NodeInRange shape member
   -- of what says nothing of a log
   pub hears_silent : (item : Heard) → IsOfNoLog item → NodeInRange shape member (node_hearing item n)
   hears_silent item silent =
-      in_volatile a (node_hearing item n).volatile (hears n.volatile.role (length n.durable.log) n.volatile.first item n.volatile.heard silent a.knows)
+      in_volatile a (node_hearing item n).volatile a.clients (hears n.volatile.role (length n.durable.log) n.volatile.first item n.volatile.heard silent a.knows)
 
   -- of a leader
   pub leader_hears_in_range : (item : Heard) → ItemInRange (length n.durable.log) item → n.volatile.role ≡ Leader → NodeInRange shape member (node_hearing item n)
   leader_hears_in_range item ranged leads =
-      in_volatile a (node_hearing item n).volatile
+      in_volatile a (node_hearing item n).volatile a.clients
       (subst (λ (role : Role). KnowsInRange role (length n.durable.log) n.volatile.first (item ∷ n.volatile.heard)) (sym leads)
       (leader_hears (length n.durable.log) n.volatile.first item n.volatile.heard ranged (knows_as a Leader leads)))
 

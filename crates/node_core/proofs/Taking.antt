@@ -13,7 +13,7 @@ use Rattle.entry_frames.specs.Kinds.{kind_of}
 use Rattle.entry_frames.specs.Limits.{most_entries}
 use Rattle.entry_frames.specs.Logs.{term_at}
 use Rattle.entry_frames.specs.MessageParts.{body_of, entries_of, prev_of, prev_term_of, term_of}
-use Rattle.entry_frames.specs.Records.{Commit, first_number}
+use Rattle.entry_frames.specs.Records.{first_number}
 use Rattle.entry_frames.specs.Stored.{AreEntries, DurableInRange}
 use Rattle.entry_frames.specs.declared.kind.Kind.TheVariants as kinds
 use Rattle.entry_frames.specs.declared.kind.PeerKind.TheVariants as peer_kinds
@@ -25,9 +25,9 @@ use Rattle.full_append.specs.Plans.{completed_indexes, later_commit}
 use Rattle.full_append.proofs.Carrying.{only_the_log}
 use Rattle.world_model.specs.Nodes.{Node}
 use Rattle.world_model.specs.Ranges.{HasSpelling}
-use Rattle.world_model.specs.Rules.Acts.{recording, stays}
+use Rattle.world_model.specs.Rules.Acts.{stays}
 use Rattle.world_model.specs.Rules.Append.{common, completion, completion_of, completions, is_same_head, taken_records}
-use Rattle.world_model.specs.Rules.Applying.{act_of_commit}
+use Rattle.world_model.specs.Rules.Applying.{act_of_applying, act_of_commit}
 use Rattle.world_model.proofs.Frames.{body_spelled}
 use Rattle.world_model.proofs.Ranges.Append.{IsStretch, stretch_of}
 use Rattle.world_model.proofs.Ranges.Taking.{Takes, records_take}
@@ -136,5 +136,5 @@ commits_later n own theirs is = by_test (nat_lt own theirs) refl
         let nothing : nat_lt n.durable.commit own ≡ false = le-ltb n.durable.commit own (omega (arith, is)) in
         let none : nat_lt n.durable.commit theirs ≡ false = le-ltb n.durable.commit theirs (omega (arith, is, ltb-false own theirs e)) in
         ap (λ b. act_of_commit (cond b theirs own) n) e
-        ∙ ap (λ b. cond b (recording (Commit own) (stays n)) (stays n)) nothing
-        ∙ sym (ap (λ b. cond b (recording (Commit theirs) (stays n)) (stays n)) none)
+        ∙ ap (λ b. cond b (act_of_applying own n) (stays n)) nothing
+        ∙ sym (ap (λ b. cond b (act_of_applying theirs n) (stays n)) none)

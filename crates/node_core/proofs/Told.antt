@@ -12,17 +12,17 @@ use Rattle.world_model.specs.Turn as turns
 use Rattle.node_core.specs.Acting.{cut_indexes, whole_indexes}
 use Rattle.node_core.specs.Turns.{change_of, growth_of}
 
--- five lists, one behind the other
+-- six lists, one behind the other
 pub told_all :
-    (start role cuts wholes commit sends one two three four five : List Output) → start ≡ [] → one ≡ start ++ role → two ≡ one ++ cuts → three ≡ two ++ wholes → four ≡ three ++ commit →
-    five ≡ four ++ sends → five ≡ (role ++ (cuts ++ (wholes ++ commit))) ++ sends
-told_all start role cuts wholes commit sends one two three four five none a b c d e =
+    (start role cuts wholes commit replies sends one two three four five six : List Output) → start ≡ [] → one ≡ start ++ role → two ≡ one ++ cuts → three ≡ two ++ wholes → four ≡ three ++ commit →
+    five ≡ four ++ replies → six ≡ five ++ sends → six ≡ (role ++ (cuts ++ (wholes ++ commit))) ++ (replies ++ sends)
+told_all start role cuts wholes commit replies sends one two three four five six none a b c d e f =
     let first : one ≡ role = a ∙ ap (λ xs. xs ++ role) none in
     let second : two ≡ role ++ cuts = b ∙ ap (λ xs. xs ++ cuts) first in
     let third : three ≡ role ++ (cuts ++ wholes) = c ∙ ap (λ xs. xs ++ wholes) second ∙ append_assoc role cuts wholes in
     let fourth : four ≡ role ++ (cuts ++ (wholes ++ commit)) =
     d ∙ ap (λ xs. xs ++ commit) third ∙ append_assoc role (cuts ++ wholes) commit ∙ ap (λ xs. role ++ xs) (append_assoc cuts wholes commit) in
-    e ∙ ap (λ xs. xs ++ sends) fourth
+    f ∙ ap (λ xs. xs ++ sends) (e ∙ ap (λ xs. xs ++ replies) fourth) ∙ append_assoc (role ++ (cuts ++ (wholes ++ commit))) replies sends
 
 told_change : (same : Bool) (role : Role) (term : ℕ) → option_to_list (cond same None (Some (outputs.Role role term))) ≡ cond same [] (outputs.Role role term ∷ [])
 told_change true role term = refl

@@ -1,14 +1,16 @@
 -- What a member does in the middle of a turn.
-use Rattle.std.specs.Prelude.{◌≡◌, ℕ, ◌+◌, ◌≤◌, List, [], ◌∷◌, ◌++◌, length}
+use Rattle.std.specs.Prelude.{◌≡◌, ℕ, ◌+◌, ◌≤◌, List, [], ◌∷◌, ◌++◌, length, Bool, true, false}
 use Rattle.entry_frames.specs.Durable.{CanApplyAll}
 use Rattle.entry_frames.specs.Durable as durable
 use Rattle.entry_frames.specs.Bodies.{HaveSpellings}
 use Rattle.entry_frames.specs.MessageParts.{term_of}
-use Rattle.entry_frames.specs.Records.{Record, Cut, Whole, record_spellings}
+use Rattle.entry_frames.specs.Records.{Record, Cut, Whole, Commit, record_spellings}
+use Rattle.kv_apply.specs.Services as services
 use Rattle.peer_frames.specs.FrameViews.{ViewedFrame}
 use Rattle.world_model.specs.Nodes.{Node}
 use Rattle.world_model.specs.Ranges.{HasSpelling, NodeInRange}
 use Rattle.world_model.specs.Rules.Acts as acts
+use Rattle.world_model.specs.Rules.Call.{applied_heads}
 use Rattle.world_model.specs.Rules.Say.{start_of}
 use Rattle.node_core.specs.declared.act.Act.{Act}
 use Rattle.node_core.specs.declared.member.Member.{Member}
@@ -19,12 +21,22 @@ use Rattle.node_core.specs.Stands.{Kept, Stands}
 -- what is kept of it
 abbrev pub kept_of : Member → Kept
 kept_of m =
-    record { shape = m.shape; me = m.me; durable = m.store.kept; role = m.role; quiet = m.quiet; hint = m.hint; heard = m.heard }
+    record {
+      shape = m.shape;
+      me = m.me;
+      durable = m.store.kept;
+      role = m.role;
+      quiet = m.quiet;
+      hint = m.hint;
+      heard = m.heard;
+      calls = m.calls.items;
+    }
 
--- it stands for the node, and so does its store
+-- it stands for the node, and so does its store; and its map is that of the commands of the log up to the commit index
 pub record IsNode (m : Member) (n : Node) : Type 0 where
   pub stands : Stands (kept_of m) n
   pub of_store : m.store.shape ≡ n.shape
+  pub of_service : services.Stands m.service (applied_heads n)
 
 -- there is a node for which it stands, whose numbers are in range
 pub record IsRangedMember (m : Member) : Type 0 where
@@ -60,6 +72,11 @@ pub record MayRecord (m : Member) (records : List Record) : Type 0 where
 
 -- ---- what it did
 
+-- whether a record moves the commit index
+abbrev pub is_commit : Record → Bool
+is_commit (Commit index) = true
+is_commit _ = false
+
 -- from which indexes on records remove entries
 abbrev pub cut_indexes : List Record → List ℕ
 cut_indexes [] = []
@@ -72,7 +89,17 @@ whole_indexes [] = []
 whole_indexes (Whole index bytes ∷ records) = index ∷ whole_indexes records
 whole_indexes (_ ∷ records) = whole_indexes records
 
--- the member stands for a rule's node, and the rule's records, which could be made, and its messages were added
+-- that record was put into the group, and what is told of it was noted; the store is as it leaves it, and all else is as before
+pub record IsMade (r : Record) (before after : Act) : Type 0 where
+  pub member : after.member ≡ record before.member { store = after.member.store }
+  pub shape : after.member.store.shape ≡ before.member.store.shape
+  pub kept : after.member.store.kept ≡ durable.applied before.member.store.kept r
+  pub group : after.group ≡ before.group ++ record_spellings before.member.store.shape.need (r ∷ [])
+  pub cuts : after.cuts.items ≡ before.cuts.items ++ cut_indexes (r ∷ [])
+  pub wholes : after.wholes.items ≡ before.wholes.items ++ whole_indexes (r ∷ [])
+  pub told : (after.replies ≡ before.replies) × (after.sends ≡ before.sends)
+
+-- the member stands for a rule's node, and the rule's records, which could be made, its replies and its messages were added
 pub record IsActed (act : acts.Act) (before after : Act) : Type 0 where
   pub node : IsNode after.member act.node
   pub same : after.member.store.shape ≡ before.member.store.shape
@@ -81,6 +108,7 @@ pub record IsActed (act : acts.Act) (before after : Act) : Type 0 where
   pub records : after.group ≡ before.group ++ record_spellings before.member.store.shape.need act.records
   pub cuts : after.cuts.items ≡ before.cuts.items ++ cut_indexes act.records
   pub wholes : after.wholes.items ≡ before.wholes.items ++ whole_indexes act.records
+  pub replies : after.replies.items ≡ before.replies.items ++ act.replies
   pub sends : after.sends.items ≡ before.sends.items ++ act.sends
 
 -- Whatever node the member stood for, the rule was carried out.

@@ -1,5 +1,7 @@
 pub mod Stands
 pub mod Acting
+pub mod Serving
+pub mod Calling
 pub mod Appending
 pub mod Turns
 pub mod Telling

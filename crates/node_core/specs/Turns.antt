@@ -8,7 +8,7 @@ use Rattle.entry_frames.specs.declared.output.Output.{Output}
 use Rattle.entry_frames.specs.declared.output.Output.TheVariants as outputs
 use Rattle.entry_frames.specs.declared.role.Role.{Role}
 use Rattle.world_model.specs.Nodes.{Node}
-use Rattle.world_model.specs.Ranges.{EventInRange, HasSpelling}
+use Rattle.world_model.specs.Ranges.{EventInRange, HasSpelling, ReplyHasSpelling}
 use Rattle.world_model.specs.Turn as turns
 use Rattle.node_core.specs.declared.event.Event.{Event}
 use Rattle.node_core.specs.declared.event.Event.TheVariants as events
@@ -25,7 +25,7 @@ abbrev pub IsReadIn : Shape → Event → Type 0
 IsReadIn shape (events.Frame view) = view.shape ≡ shape
 IsReadIn shape _ = Unit {0}
 
--- a frame is of another member of the cluster to this one
+-- a frame is of another member of the cluster to this one, and a request has a spelling
 pub record IsFor (core : Kept) (event : Event) : Type 0 where
   pub ranged : EventInRange core.shape core.me (event_of event)
   pub read : IsReadIn core.shape event
@@ -42,7 +42,7 @@ growth_of commit_before commit = if nat_lt commit_before commit then Some (outpu
 -- What is left of the turn of a member that stood for a node. The member is the same one of the same cluster, and stands for the
 -- turn's node. The group spells the turn's records, each of which has a spelling and which can be applied, in order, to what the
 -- member kept before, and it is empty only where there are none. The turn's outputs are told, and each message that is sent has a
--- spelling.
+-- spelling, and so has each reply.
 pub record TurnedTo (before : Kept) (n : Node) (event : turns.Event) (core : Kept) (left : Turned) : Type 0 where
   pub node : Stands core (turns.turn event n).node
   pub same : (core.shape ≡ before.shape) × (core.me ≡ before.me)
@@ -52,3 +52,4 @@ pub record TurnedTo (before : Kept) (n : Node) (event : turns.Event) (core : Kep
   pub empty : left.group ≡ [] → (turns.turn event n).records ≡ []
   pub outputs : left.outputs.items ≡ (turns.turn event n).outputs
   pub spelled : All (HasSpelling before.shape) (turns.act_of event n).sends
+  pub replied : All (ReplyHasSpelling before.shape before.me) (turns.act_of event n).replies

@@ -9,6 +9,6 @@ pub enum Event<'a> {
     Tick { word: u64 },
     /// A message of another member comes.
     Frame(MessageView<'a>),
-    /// A client asks, at that place. No rule takes it yet.
+    /// A client asks, at that place.
     Call { place: u64, request: &'a Request },
 }

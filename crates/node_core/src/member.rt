@@ -7,9 +7,11 @@ ghost use Rattle.heard_book.specs.Kept as known;
 use craft_base::{MemberId, OutOfMemory, Shape};
 use entry_frames::RecordView;
 use heard_book::Heard;
+use kv_apply::Service;
 use log_store::LogStore;
 use peer_frames::Role;
 use std::alloc::Global;
+use world_model::Called;
 
 /// What a member keeps while it runs.
 #[derive(Drop)]
@@ -26,6 +28,10 @@ pub(crate) struct Member {
     pub hint: Option<MemberId>,
     /// What it knows in this term of the others.
     pub heard: Heard,
+    /// The map after what is committed of its log.
+    pub service: Service,
+    /// The requests that it added to its log as a leader and hasn't answered yet.
+    pub calls: Vec<Called>,
 }
 
 impl Member {
@@ -46,6 +52,8 @@ impl Member {
             quiet: self.quiet,
             hint: self.hint,
             heard: self.heard,
+            service: self.service,
+            calls: self.calls,
         })
     }
 

@@ -1,6 +1,7 @@
 //! The rules of a turn, one file a rule.
 mod append;
 mod applying;
+mod call;
 mod matched;
 mod prepare;
 mod say;

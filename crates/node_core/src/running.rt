@@ -2,11 +2,15 @@
 ghost use Rattle.std.specs.Prelude.{◌≡◌, ◌<◌, IfOk};
 ghost use Rattle.craft_base.specs.Shape.{members_of};
 ghost use Rattle.world_model.specs.Nodes.{started};
+ghost use Rattle.kv_apply.specs.Services as services;
+ghost use Rattle.node_core.specs.Serving.{heads_up_to};
 ghost use Rattle.node_core.specs.Stands.{Stands};
 
 use crate::member::Member;
 use craft_base::{MemberId, OutOfMemory, Shape};
+use entry_frames::LogView;
 use heard_book::Heard;
+use kv_apply::Service;
 use log_store::LogStore;
 use peer_frames::Role;
 use std::alloc::Global;
@@ -44,6 +48,7 @@ impl Core {
     {
         store.law();
         let heard = Heard::new(alloc, shape, me)?;
+        let service = applied(alloc, &store)?;
         Ok(Core {
             member: Member {
                 alloc,
@@ -54,6 +59,8 @@ impl Core {
                 quiet: 0,
                 hint: None,
                 heard,
+                service,
+                calls: Vec::new(alloc),
             },
         })
     }
@@ -72,4 +79,20 @@ impl Core {
     {
         &self.member.store
     }
+}
+
+/// The map after what is committed of a log. The only error is want of memory.
+fn applied(alloc: Global, store: &LogStore) -> Result<Service, OutOfMemory>
+    ensures { IfOk result (λ service. services.Stands service (heads_up_to store.now.kept.commit store.now.kept)) }
+{
+    let mut service = Service::new(alloc);
+    for before in 0..store.commit() {
+        let index = before + 1;
+        let Some(entry) = store.at(index) else {
+            unreachable!()
+        };
+        let (next, _outcome) = service.apply(index, &entry)?;
+        service = next;
+    }
+    Ok(service)
 }

@@ -5,12 +5,13 @@ ghost use Rattle.entry_frames.specs.declared.output.Output.TheVariants as output
 ghost use Rattle.entry_frames.specs.declared.role.Role.TheVariants.{Preparing};
 ghost use Rattle.node_core.specs.Telling.{told_of};
 ghost use Rattle.node_core.specs.Turns.{change_of, growth_of};
-ghost use Rattle.world_model.specs.Turn.{is_same_role};
+ghost use Rattle.world_model.specs.Turn.{is_same_role, reply_output};
 
 use crate::member::Member;
 use craft_base::OutOfMemory;
 use entry_frames::{LogView, Message, Output, Role};
 use std::alloc::Global;
+use world_model::ClientReply;
 
 /// What a member was before a turn, as far as it is told where that changed.
 #[derive(Clone, Copy)]
@@ -82,15 +83,17 @@ pub(crate) struct Changes {
 pub(crate) fn tell(
     alloc: Global,
     changes: Changes,
+    replies: Vec<ClientReply>,
     sends: Vec<Message>,
 ) -> Result<Vec<Output>, OutOfMemory>
-    ensures { IfOk result (λ told. told.items ≡ told_of changes ++ map outputs.Send sends.items) }
+    ensures { IfOk result (λ told. told.items ≡ told_of changes ++ (map reply_output replies.items ++ map outputs.Send sends.items)) }
 {
     let mut told = Vec::new(alloc);
     tell_some(&mut told, changes.role)?;
     tell_cuts(&mut told, &changes.cuts, changes.prepares)?;
     tell_wholes(&mut told, &changes.wholes)?;
     tell_some(&mut told, changes.commit)?;
+    tell_replies(&mut told, replies)?;
     tell_sends(&mut told, sends)?;
     Ok(told)
 }
@@ -121,6 +124,20 @@ fn tell_wholes(told: &mut Vec<Output>, wholes: &[u64]) -> Result<(), OutOfMemory
 {
     for index in wholes {
         told.push(Output::Whole { index: *index })?;
+    }
+    Ok(())
+}
+
+fn tell_replies(told: &mut Vec<Output>, replies: Vec<ClientReply>) -> Result<(), OutOfMemory>
+    ensures { OnOk result (told.new.items ≡ told.old.items ++ map reply_output replies.items) }
+{
+    for reply in replies {
+        told.push(Output::Reply {
+            place: reply.place,
+            client: reply.client,
+            seq: reply.seq,
+            reply: reply.reply,
+        })?;
     }
     Ok(())
 }

@@ -2,15 +2,22 @@
 ghost use Rattle.std.specs.Prelude.{IfOk};
 ghost use Rattle.node_core.specs.Turns.{IsFor};
 
-use crate::{Core, Event, Output, Role, Turned};
-use craft_base::{Form, MemberId, Shape};
-use entry_frames::{Batch, Kind};
+mod asking;
+mod calls;
+mod limits;
+mod text;
+mod values;
+
+use crate::{Core, Event, Role, Turned};
+use craft_base::{MemberId, Shape};
+use entry_frames::Kind;
 use log_store::LogStore;
-use peer_frames::{Message, MessageView, Peer};
+use peer_frames::MessageView;
 use std::alloc::Global;
 use std::process::Abort;
 use std::test::Fail;
 use test_text::bytes_of;
+use text::leaves;
 
 /// A member of three that starts without a journal.
 fn started(alloc: Global, number: u8) -> Result<Core, Fail> {
@@ -37,81 +44,6 @@ fn event_for<'a>(core: &Core, frame: &'a [u8]) -> Result<Event<'a>, Fail>
 fn take(core: Core, frame: &[u8]) -> Result<(Core, Turned), Fail> {
     let event = event_for(&core, frame)?;
     Ok(core.turn(&event)?)
-}
-
-// ---- what is told, as text
-
-/// A letter for each entry: w for a whole one, p for a part.
-fn forms_text(alloc: Global, entries: &Batch) -> Result<String, Fail> {
-    let mut text = String::new(alloc);
-    for n in 0..entries.len() {
-        let entry = entries.at(n).ok_or("no such entry")?;
-        text.push_str(match entry.form {
-            Form::Whole(_) => "w",
-            Form::Part(_) => "p",
-        })?;
-    }
-    Ok(text)
-}
-
-/// What a member says to another one.
-fn said_text(alloc: Global, body: &Peer) -> Result<String, Fail> {
-    Ok(match body {
-        Peer::Vote { last_term, last } => format!(in alloc; "vote {last_term} {last}")?,
-        Peer::VoteReply { granted } => format!(in alloc; "voted {granted}")?,
-        Peer::Append {
-            prev,
-            prev_term,
-            commit,
-            entries,
-        } => {
-            let forms = forms_text(alloc, entries)?;
-            format!(in alloc; "append {prev} {prev_term} {commit} {forms}")?
-        }
-        Peer::Matched { prev, count, mask } => format!(in alloc; "matched {prev} {count} {mask}")?,
-        Peer::Refused { next } => format!(in alloc; "refused {next}")?,
-        Peer::Ask { .. } | Peer::Answer { .. } => return Err("no rule sends it".into()),
-    })
-}
-
-/// What a member tells: `send`, who sends, who receives and the term before what it says, or what changed.
-fn told_text(alloc: Global, output: &Output) -> Result<String, Fail> {
-    Ok(match output {
-        Output::Role { role, term } => format!(in alloc; "role {role:?} {term}")?,
-        Output::Commit { index } => format!(in alloc; "commit {index}")?,
-        Output::Send {
-            message: Message::Peer {
-                from,
-                to,
-                term,
-                body,
-            },
-        } => {
-            let said = said_text(alloc, body)?;
-            format!(in alloc; "send {} {} {term} {said}", from.number(), to.number())?
-        }
-        _ => return Err("told by no turn here".into()),
-    })
-}
-
-/// The turn leaves a group of these bytes, none where nothing is recorded, and tells this.
-fn leaves(
-    rt: &impl Abort,
-    alloc: Global,
-    turned: &Turned,
-    group: &str,
-    told: &[&str],
-) -> Result<(), Fail> {
-    if group.is_empty() {
-        assert!(rt; turned.group.is_empty());
-    } else {
-        assert_eq!(rt; turned.group.as_bytes(), bytes_of(alloc, group)?.as_slice());
-    }
-    assert_eq!(rt; turned.outputs.len(), told.len());
-    for (output, want) in turned.outputs.iter().zip(told) {
-        assert_eq!(rt; told_text(alloc, output)?.as_str(), *want);
-    }
-    Ok(())
 }
 
 // ---- turns

@@ -21,7 +21,7 @@ use peer_frames::{MessageView, Output};
 pub struct Turned {
     /// The records, which have to be in the journal before anything is told; none where nothing changed that outlives a crash.
     pub group: Group,
-    /// What is told, in its order: what changed, and then what is sent.
+    /// What is told, in its order: what changed, then what clients are told, and then what is sent.
     pub outputs: Vec<Output>,
 }
 
@@ -49,7 +49,7 @@ impl Core {
             wholes: act.wholes,
             commit: before.commit_change(&act.member),
         };
-        let outputs = tell(act.member.alloc, changes, act.sends)?;
+        let outputs = tell(act.member.alloc, changes, act.replies, act.sends)?;
         let group = act.group.close()?;
         Ok((Core { member: act.member }, Turned { group, outputs }))
     }
@@ -70,7 +70,7 @@ impl Act {
         match event {
             Event::Tick { word } => self.tick(*word),
             Event::Frame(view) => self.take(view),
-            Event::Call { .. } => Ok(self),
+            Event::Call { place, request } => self.take_call(*place, request),
         }
     }
 

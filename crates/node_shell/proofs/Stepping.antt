@@ -81,7 +81,7 @@ pub some_bytes : (is_empty : Bool) (group : List ℕ) → is_empty ≡ false →
 some_bytes is_empty group false_now empty none = false≢true (sym false_now ∙ empty none)
 
 pub steps : (core : Kept) (n : Node) (event : turns.Event) (new : Kept) (left : Turned) (told : Outputs) → told.list ≡ left.outputs → TurnedTo core n event new left → StepsTo core n event new told
-steps core n event new left told same turned = record { node = turned.node; outputs = ap (λ v. v.items) same ∙ turned.outputs; spelled = turned.spelled }
+steps core n event new left told same turned = record { node = turned.node; outputs = ap (λ v. v.items) same ∙ turned.outputs; replied = turned.replied; spelled = turned.spelled }
 
 pub no_calls : (core : Kept) (n : Node) (event : turns.Event) (new : Kept) (left : Turned) (history : Option DiskHistory) (gate : ℕ) → TurnedTo core n event new left → left.group ≡ []
     → history ≡ after_calls history (step_calls gate (body_of_turn core event n))

@@ -13,13 +13,14 @@ use Rattle.synced_log.specs.Standing.{append_calls}
 use Rattle.synced_log.specs.States.{OpensTo}
 use Rattle.synced_log.specs.Stops.{StopsAppend}
 use Rattle.world_model.specs.Nodes.{Node}
-use Rattle.world_model.specs.Ranges.{HasSpelling}
+use Rattle.world_model.specs.Ranges.{HasSpelling, ReplyHasSpelling}
 use Rattle.world_model.specs.Turn as turns
 
--- the member stands for the turn's node, the turn's outputs are told, and each message that is sent has a spelling
+-- the member stands for the turn's node, the turn's outputs are told, and each reply and each message that is sent has a spelling
 pub record StepsTo (before : Kept) (n : Node) (event : turns.Event) (core : Kept) (told : Outputs) : Type 0 where
   pub node : Stands core (turns.turn event n).node
   pub outputs : told.list.items ≡ (turns.turn event n).outputs
+  pub replied : All (ReplyHasSpelling before.shape before.me) (turns.act_of event n).replies
   pub spelled : All (HasSpelling before.shape) (turns.act_of event n).sends
 
 -- the body of the group that a turn adds to the journal, empty where it has no records

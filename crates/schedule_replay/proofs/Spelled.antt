@@ -10,6 +10,7 @@ use Rattle.entry_frames.specs.declared.output.Output.{Output}
 use Rattle.entry_frames.specs.declared.output.Output.TheVariants as outputs
 use Rattle.schedule_text.specs.Sends.{SendsPeer}
 use Rattle.world_model.specs.Ranges.{HasSpelling, InRange}
+use Rattle.world_model.specs.Spelling.{IsLineOf}
 use Rattle.world_model.specs.World as model
 use Rattle.world_model.specs.declared.line.Line.{Line}
 use Rattle.world_model.proofs.Ranges.Worlds.{step_in_range}
@@ -34,9 +35,9 @@ all_behind P (x ∷ xs) ys all = all_behind P xs ys (All-tail P x (xs ++ ys) all
 
 -- what a line makes members tell can be sent
 pub line_can_send :
-    {shape : Shape} → IsShape shape → {w : model.World} → InRange shape w → (line : Line) (told : List Output) → told ≡ (model.step w line).outputs → All (CanBeSent shape) told
-line_can_send {shape = shape} is {w = w} r line told same =
-    let after = step_in_range is r line in
+    {shape : Shape} → IsShape shape → {w : model.World} → InRange shape w → (line : Line) → IsLineOf shape line → (told : List Output) → told ≡ (model.step w line).outputs → All (CanBeSent shape) told
+line_can_send {shape = shape} is {w = w} r line of_line told same =
+    let after = step_in_range is r line of_line in
     let spelled = all_behind (HasSpelling shape) w.sent (model.sent_among (model.step w line).outputs) (subst (All (HasSpelling shape)) (step_sends w line) after.sent) in
     subst (All (CanBeSent shape)) (sym same) (can_be_sent shape (model.step w line).outputs spelled)
 

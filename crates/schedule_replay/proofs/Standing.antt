@@ -7,6 +7,7 @@ use Rattle.entry_frames.specs.declared.output.Output.{Output}
 use Rattle.world_model.specs.Ranges.{InRange}
 use Rattle.world_model.specs.Schedule.{most_lines}
 use Rattle.world_model.specs.Tallies.{counted, greatest_commit, is_cut, is_reply, tally_of, tells_leader}
+use Rattle.world_model.specs.Spelling.{IsLineOf}
 use Rattle.world_model.specs.World as model
 use Rattle.world_model.specs.declared.line.Line.{Line}
 use Rattle.world_model.specs.declared.tally.Tally.{Tally}
@@ -43,13 +44,13 @@ module _ (shape : Shape) (events : List Line) (line : Line) where
 
   pub stands_more :
       (seats later_seats : List Seat) (sent later_sent : List (List ℕ)) (tally : Tally) (outputs : List Output) → PartsStand shape seats sent w →
-      AreSeats shape later_seats h.world.members → outputs ≡ h.outputs → later_sent ≡ sent ++ map (frame_bytes shape) (model.sent_among outputs) →
+      IsLineOf shape line → AreSeats shape later_seats h.world.members → outputs ≡ h.outputs → later_sent ≡ sent ++ map (frame_bytes shape) (model.sent_among outputs) →
       tally ≡ tally_of shape (events ++ line ∷ []) →
       StandsFor (record { shape = shape; seats = later_seats; sent = later_sent; tally = tally }) (events ++ line ∷ [])
-  stands_more seats later_seats sent later_sent tally outputs parts sit same more counted = record {
+  stands_more seats later_seats sent later_sent tally outputs parts of_line sit same more counted = record {
     parts = record {
       is_shape = parts.is_shape;
-      in_range = subst (InRange shape) (sym run_more) (step_in_range parts.is_shape parts.in_range line);
+      in_range = subst (InRange shape) (sym run_more) (step_in_range parts.is_shape parts.in_range line of_line);
       seats_are = subst (λ now. AreSeats shape later_seats now.members) (sym run_more) sit;
       sent_are = frames_more sent later_sent outputs parts.sent_are same more ∙ ap (λ now. map (frame_bytes shape) now.sent) (sym run_more);
     };
@@ -67,14 +68,14 @@ stands_first shape is seats count a all = record {
 -- all of it
 pub world_more :
     (shape : Shape) (events : List Line) (line : Line) (seats later_seats : List Seat) (sent later_sent : List (List ℕ)) (before after : Tally) (outputs : List Output) →
-    StandsFor (record { shape = shape; seats = seats; sent = sent; tally = before }) events → AreSeats shape later_seats (h shape events line).world.members → outputs ≡ (h shape events line).outputs →
+    StandsFor (record { shape = shape; seats = seats; sent = sent; tally = before }) events → IsLineOf shape line → AreSeats shape later_seats (h shape events line).world.members → outputs ≡ (h shape events line).outputs →
     later_sent ≡ sent ++ map (frame_bytes shape) (model.sent_among outputs) → after.events ≡ counted (before.events + 1) → after.frames ≡ length later_sent → after.frames < 2 ^ 64 →
     after.replies ≡ counted (before.replies + count_by is_reply outputs) → after.leaders ≡ counted (before.leaders + count_by tells_leader outputs) →
     after.commit ≡ greatest_commit (h shape events line).world.members → after.commit < 2 ^ 64 → after.cuts ≡ counted (before.cuts + count_by is_cut outputs) →
     StandsFor (record { shape = shape; seats = later_seats; sent = later_sent; tally = after }) (events ++ line ∷ [])
-world_more shape events line seats later_seats sent later_sent before after outputs s sit same more count frames few_frames replies leaders commit few_commit cuts =
+world_more shape events line seats later_seats sent later_sent before after outputs s of_line sit same more count frames few_frames replies leaders commit few_commit cuts =
     let all_frames = ap length (frames_more shape events line sent later_sent outputs s.parts.sent_are same more) ∙ length-map (h shape events line).world.sent (frame_bytes shape) in
-    stands_more shape events line seats later_seats sent later_sent after outputs s.parts sit same more
+    stands_more shape events line seats later_seats sent later_sent after outputs s.parts of_line sit same more
     (tally_more shape events line before after outputs s.tally same count (frames ∙ all_frames) few_frames replies leaders commit few_commit cuts)
 
 -- the number of an event, and of the next frame

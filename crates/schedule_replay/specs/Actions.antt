@@ -1,5 +1,5 @@
 -- What is asked of a member, as the definitions have it.
-use Rattle.std.specs.Prelude.{◌≡◌, ℕ, ◌≤◌, Option, slice_set}
+use Rattle.std.specs.Prelude.{◌≡◌, ℕ, ◌≤◌, Option, slice_get, slice_set}
 use Rattle.craft_base.specs.Shape.{Shape}
 use Rattle.node_core.specs.declared.event.Event.{Event}
 use Rattle.node_core.specs.Turns.{IsReadIn, event_of}
@@ -37,6 +37,11 @@ act_of (Turn event ending) w me found = model.turn_of (ending_of ending) w (reco
 act_of Down w me found = model.down_of w me found
 act_of Up w me found = model.up_of w me found
 act_of Show w me found = model.show_of w me found
+
+-- what becomes of the world where a member makes the turn of an event, which ends in that way
+abbrev pub turn_done : Event → Ending → model.World → ℕ → model.Happened
+turn_done event ending w me =
+    model.turn_of (ending_of ending) w (record { member = me; event = event_of event }) (slice_get w.members me)
 
 -- it was done: the member alone is another one, to whom the place belongs, and what is told is told
 pub record IsDone (shape : Shape) (me : ℕ) (seat : Seat) (told : Happened) (w : model.World) (h : model.Happened) : Type 0 where

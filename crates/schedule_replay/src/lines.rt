@@ -4,9 +4,9 @@ ghost use Rattle.craft_base.specs.Shape.{members_of};
 ghost use Rattle.entry_frames.specs.Durable.{Durable};
 ghost use Rattle.node_core.specs.Turns.{event_of};
 ghost use Rattle.world_model.specs.Nodes.{Volatile};
-ghost use Rattle.world_model.specs.Spelling.{IsLineOf};
+ghost use Rattle.world_model.specs.Spelling.{IsInnerOf, IsLineOf};
 ghost use Rattle.world_model.specs.World as model;
-ghost use Rattle.schedule_replay.specs.Actions.{CanAct, CanEnd, IsDone, IsToldTo, act_of, ending_of};
+ghost use Rattle.schedule_replay.specs.Actions.{CanAct, CanEnd, IsDone, IsToldTo, act_of, ending_of, turn_done};
 ghost use Rattle.schedule_replay.specs.Seats.{AreSeats, Runs, Rests, Sits, running_with, turn_of};
 ghost use Rattle.schedule_replay.specs.Told.{TellsOf};
 ghost use Rattle.schedule_replay.specs.Worlds.{PartsStand};
@@ -79,6 +79,7 @@ fn happen_as(
     ending: Ending,
 ) -> Result<Happened, OutOfMemory>
     requires stands { (w : model.World) × PartsStand shape.now seats.old.items sent.now w }
+    requires inner { IsInnerOf shape.now inner.now }
     requires ending { CanEnd ending }
     ensures seats { OnOk result ((w : model.World) → PartsStand shape.now seats.old.items sent.now w →
         AreSeats shape.now seats.new.items (model.turn_at (ending_of ending) w (model.aim_of w inner.now)).world.members) }
@@ -88,23 +89,38 @@ fn happen_as(
     match inner {
         Inner::Tick { member, word } => {
             let event = Event::Tick { word: *word };
-            act_at(
-                alloc,
-                shape,
-                seats,
-                *member,
-                &Action::Turn { event, ending },
-            )
+            turn_at(alloc, shape, seats, *member, event, ending)
         }
         Inner::Take { frame } => match frame_in(shape, sent, *frame) {
             None => Ok(Happened::nothing(alloc, Verdict::NoFrame)),
-            Some(view) => {
-                let member = view.to();
-                let event = Event::Frame(view);
-                act_at(alloc, shape, seats, member, &Action::Turn { event, ending })
-            }
+            Some(view) => turn_at(alloc, shape, seats, view.to(), Event::Frame(view), ending),
         },
+        Inner::Call { member, request } => {
+            let place = request.client;
+            let event = Event::Call { place, request };
+            turn_at(alloc, shape, seats, *member, event, ending)
+        }
     }
+}
+
+/// Lets a member make the turn that an event calls for.
+fn turn_at(
+    alloc: Global,
+    shape: &Shape,
+    seats: &mut Vec<Seat>,
+    member: MemberId,
+    event: Event<'_>,
+    ending: Ending,
+) -> Result<Happened, OutOfMemory>
+    requires seats { (members : List model.Member) × AreSeats shape.now seats.old.items members }
+    requires event { IsToldTo shape.now member event }
+    requires ending { CanEnd ending }
+    ensures seats { OnOk result ((w : model.World) → w.shape ≡ shape.now → AreSeats shape.now seats.old.items w.members →
+        AreSeats shape.now seats.new.items (turn_done event.entry ending w member).world.members) }
+    ensures told { IfOk result (λ happened. (w : model.World) → w.shape ≡ shape.now → AreSeats shape.now seats.old.items w.members →
+        TellsOf happened (turn_done event.entry ending w member)) }
+{
+    act_at(alloc, shape, seats, member, &Action::Turn { event, ending })
 }
 
 /// Does what is asked of a member, in its place.

@@ -74,7 +74,7 @@ fn run<S: Source, O: Sink>(
 }
 
 /// What comes next of a schedule.
-#[derive(Clone, Copy, Debug)]
+#[derive(Debug, Drop)]
 pub enum Next {
     Asked(Line),
     /// The line is bad.

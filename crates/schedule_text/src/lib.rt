@@ -2,6 +2,7 @@
 //! outlives its crash as lines.
 #![tactic(auto)]
 
+mod calls;
 mod forms;
 mod line_fault;
 mod message;
@@ -17,6 +18,8 @@ pub use reading::read_line;
 pub use show::show_of;
 pub use world_model::{Inner, Line};
 
+#[cfg(test)]
+mod call_tests;
 #[cfg(test)]
 mod kept_log;
 #[cfg(test)]

@@ -242,15 +242,17 @@ fn a_line_is_read(rt: HostRuntime) -> Result<(), Fail> {
         (b"stop 4 1 take 1", stop(4, true, take(1))),
     ];
     for (line, want) in table {
-        let read = read_line(rt.alloc(), &shape, line);
-        assert_eq!(rt; read, Ok(want), "at {line:?}");
+        let read = read_line(rt.alloc(), &shape, line)?;
+        let read = format!(in rt.alloc(); "{read:?}")?;
+        let want = format!(in rt.alloc(); "{want:?}")?;
+        assert_eq!(rt; read.as_str(), want.as_str());
     }
     Ok(())
 }
 
 /// What is no line of a cluster of three: a number out of range, words that are too few or too many, blanks and digits that don't
 /// belong there, words of other commands, and a stop in what isn't a turn.
-const BAD_LINES: [&[u8]; 41] = [
+const BAD_LINES: [&[u8]; 40] = [
     b"tick 2 18446744073709551616",
     b"take 18446744073709551616",
     b"take 0",
@@ -276,7 +278,6 @@ const BAD_LINES: [&[u8]; 41] = [
     b"take 1a",
     b"Take 1",
     b"takes 1",
-    b"call 0 7 1 put 61 0080",
     b"down 3",
     b"up 256",
     b"down",
@@ -298,8 +299,8 @@ const BAD_LINES: [&[u8]; 41] = [
 fn a_bad_line_is_refused(rt: HostRuntime) -> Result<(), Fail> {
     let shape = Shape::new(1, 2)?;
     for line in BAD_LINES {
-        let read = read_line(rt.alloc(), &shape, line);
-        assert_eq!(rt; read, Err(LineFault::Bad), "at {line:?}");
+        let read = read_line(rt.alloc(), &shape, line).err();
+        assert_eq!(rt; read, Some(LineFault::Bad), "at {line:?}");
     }
     Ok(())
 }

@@ -1,9 +1,12 @@
 -- What holds of every run, in parts: of each shape and each list of events in range. The words are those of `world_model`'s Safety.
-use Rattle.std.specs.Prelude.{◌≡◌, ℕ, ◌<◌, ◌≤◌, List, take, Some, slice_get}
+use Rattle.std.specs.Prelude.{◌≡◌, ℕ, ◌<◌, ◌≤◌, true, List, map, take, Some, slice_get}
 use Rattle.craft_base.specs.Shape.{Shape}
 use Rattle.craft_base.specs.declared.command.Entry.{Entry}
-use Rattle.world_model.specs.Safety.{EverLed, IsFront, IsIn, IsRun, StandsFor, StandsIn, committed}
-use Rattle.world_model.specs.Traces.{Command, LeaderCommit, Removal}
+use Rattle.craft_base.specs.declared.command.Reply.{Reply}
+use Rattle.craft_base.specs.declared.command.Reply.TheVariants.{Done, Differs, Gone, Value, Nothing, Old}
+use Rattle.kv_apply.specs.Commands.{is_of, map_reply}
+use Rattle.world_model.specs.Safety.{EverLed, IsFront, IsIn, IsRun, StandsFor, StandsIn, committed, heads_in, value_in}
+use Rattle.world_model.specs.Traces.{Command, LeaderCommit, Removal, Replied}
 use Rattle.world_model.specs.World.{Member, run}
 use Rattle.world_model.specs.declared.line.Line.{Line}
 
@@ -34,3 +37,34 @@ abbrev pub OneLeaderATerm : Type 0
 OneLeaderATerm =
     (shape : Shape) (events : List Line) → IsRun shape events → (term one other : ℕ) →
     EverLed shape events term one → EverLed shape events term other → one ≡ other
+
+-- ---- what clients are told
+
+-- there is a command at each place of what is committed
+abbrev pub AllListed : Type 0
+AllListed =
+    (shape : Shape) (events : List Line) → IsRun shape events →
+    (commands : List Command) × (committed (run shape events) ≡ map Some commands)
+
+-- the replies that tell what a request came to
+abbrev pub TellsOutcome : Reply → Type 0
+TellsOutcome (Done version) = Unit {0}
+TellsOutcome (Differs version) = Unit {0}
+TellsOutcome (Gone was_there) = Unit {0}
+TellsOutcome (Value version value) = Unit {0}
+TellsOutcome Nothing = Unit {0}
+TellsOutcome _ = ⊥
+
+-- such a reply is the one of one map that took all that is committed, and each number of a client once
+abbrev pub OneMap : Type 0
+OneMap =
+    (shape : Shape) (events : List Line) → IsRun shape events → (commands : List Command) → committed (run shape events) ≡ map Some commands →
+    (r : Replied) → IsIn r (run shape events).replies → TellsOutcome r.reply →
+    map_reply (value_in commands) r.client r.seq (heads_in commands) ≡ Some r.reply
+
+-- a client that is told that its number is old has a command with a greater one among those that are committed
+abbrev pub OldNumbers : Type 0
+OldNumbers =
+    (shape : Shape) (events : List Line) → IsRun shape events → (commands : List Command) → committed (run shape events) ≡ map Some commands →
+    (r : Replied) → IsIn r (run shape events).replies → r.reply ≡ Old →
+    (command : Command) × IsIn command commands × (is_of r.client command.head ≡ true) × (r.seq < command.head.seq)

@@ -1,10 +1,10 @@
 //! What the whole cluster promises, whatever its events: one list of commands is committed, for all members and for ever; no entry
-//! is removed that a leader of the remover's term or of a lower one commits; and no term has two leaders. Nothing here runs: `law_safe`
-//! states it as its contract, for every shape and every list of events in range. `specs/Laws.antt` has its parts;
-//! `docs/proofs/BRIDGE.md` tells the argument.
+//! is removed that a leader of the remover's term or of a lower one commits; no term has two leaders; and clients are answered as by one
+//! map that took this list. Nothing here runs: `law_safe` and `law_replies` state it as their contracts, for every shape and every list
+//! of events in range. `specs/Laws.antt` has the parts; `docs/proofs/BRIDGE.md` tells the argument.
 #![tactic(auto)]
 
-ghost use Rattle.world_laws.specs.Laws.{OneLeaderATerm, OneList, RemovesUncommitted, StaysCommitted};
+ghost use Rattle.world_laws.specs.Laws.{AllListed, OldNumbers, OneLeaderATerm, OneList, OneMap, RemovesUncommitted, StaysCommitted};
 
 /// Every run is safe, whichever members go down, stop in a turn and start anew, and whatever the network loses, repeats or reorders.
 pub fn law_safe()
@@ -16,4 +16,15 @@ pub fn law_safe()
     ensures removes { RemovesUncommitted }
     // no term has two members that ever led it or prepared to
     ensures one_leader { OneLeaderATerm }
+{}
+
+/// Clients are told what one map tells that took all that is committed, whichever members go down, stop in a turn and start anew, and
+/// whatever the network loses, repeats or reorders. A reply that refuses a request tells nothing of the map.
+pub fn law_replies()
+    // what is committed is a list of commands
+    ensures listed { AllListed }
+    // what a request came to is what it comes to in the map that took them, each number of a client once
+    ensures one_map { OneMap }
+    // where a number is old, a command of the client with a greater one is among them
+    ensures old { OldNumbers }
 {}

@@ -6,12 +6,15 @@ use Rattle.std.proofs.lemmas.Bool.Decides.{nat_tests}
 use Rattle.std.proofs.lemmas.List.Folds.{list_any_none}
 use Rattle.craft_base.specs.Shape.{Shape}
 use Rattle.world_model.specs.Schedule.{TextLine, lines_of, onto_first, line_in, line_at, most_lines, longest_line}
-use Rattle.world_model.specs.Spelling.{IsNumber, SpellsInner, SpellsLine, IsGoodLine, keep_word}
+use Rattle.world_model.specs.Lines.{bytes_word}
+use Rattle.world_model.specs.Spelling.{IsNumber, IsInnerOf, IsLineOf, SpellsInner, SpellsLine, IsGoodLine, keep_word}
 use Rattle.world_model.specs.declared.line.Inner.{Inner}
-use Rattle.world_model.specs.declared.line.Inner.TheVariants.{Tick, Take}
+use Rattle.world_model.specs.declared.line.Inner.TheVariants.{Tick, Take, Call}
 use Rattle.world_model.specs.declared.line.Line.{Line}
 use Rattle.world_model.specs.declared.line.Line.TheVariants.{Do, Down, Up, Show, Stop}
-use Rattle.world_model.proofs.InnerLines.{number_without}
+use Rattle.world_model.proofs.ByteWords.{bytes_without}
+use Rattle.world_model.proofs.CallWords.{op_without}
+use Rattle.world_model.proofs.Spelling.{number_without}
 use Rattle.world_model.proofs.ScheduleLines.{SpellsLine-read, read-SpellsLine}
 use Rattle.world_model.proofs.Inputs.{lines_of-line, good_line}
 
@@ -32,23 +35,34 @@ number_on_line : (word : List ℕ) (n : ℕ) → IsNumber word n → list_any is
 number_on_line word n h = list_any_none is_feed word (number_without 10 word n (omega arith) h)
 
 -- a spelling has no line feed
-SpellsInner-no_feed : (text : List ℕ) (inner : Inner) → SpellsInner text inner → list_any is_feed text ≡ false
-SpellsInner-no_feed text (Tick member word) (i, w, is_i, is_w, is) =
+SpellsInner-no_feed : (shape : Shape) (text : List ℕ) (inner : Inner) → SpellsInner text inner → IsInnerOf shape inner → list_any is_feed text ≡ false
+SpellsInner-no_feed shape text (Tick member word) (i, w, is_i, is_w, is) inside =
     ap (list_any is_feed) is ∙ none_of_both i (32 ∷ w) (number_on_line i member is_i) (number_on_line w word is_w)
-SpellsInner-no_feed text (Take frame) (m, is_m, is) = ap (list_any is_feed) is ∙ number_on_line m frame is_m
+SpellsInner-no_feed shape text (Take frame) (m, is_m, is) inside = ap (list_any is_feed) is ∙ number_on_line m frame is_m
+SpellsInner-no_feed shape text (Call member r) (i, c, s, o, is_i, is_c, is_s, is_o, is) (_, _, ranges) =
+    let k : List ℕ = bytes_word r.key in
+    let v : List ℕ = bytes_word r.value in
+    let on_key : list_any is_feed k ≡ false = list_any_none is_feed k (bytes_without 10 r.key (omega arith) ranges.key_bytes.each) in
+    let on_value : list_any is_feed v ≡ false = list_any_none is_feed v (bytes_without 10 r.value (omega arith) ranges.value_bytes.each) in
+    let on_op : list_any is_feed o ≡ false = list_any_none is_feed o (op_without 10 o r.op (omega arith) is_o) in
+    ap (list_any is_feed) is
+    ∙ none_of_both i (32 ∷ (c ++ 32 ∷ (s ++ 32 ∷ (o ++ 32 ∷ (k ++ 32 ∷ v))))) (number_on_line i member is_i)
+    (none_of_both c (32 ∷ (s ++ 32 ∷ (o ++ 32 ∷ (k ++ 32 ∷ v)))) (number_on_line c r.client is_c)
+    (none_of_both s (32 ∷ (o ++ 32 ∷ (k ++ 32 ∷ v))) (number_on_line s r.seq is_s)
+    (none_of_both o (32 ∷ (k ++ 32 ∷ v)) on_op (none_of_both k (32 ∷ v) on_key on_value))))
 
 keep_word-no_feed : (keep : Bool) (text : List ℕ) → list_any is_feed text ≡ false → list_any is_feed (keep_word keep ++ 32 ∷ text) ≡ false
 keep_word-no_feed false text none = none
 keep_word-no_feed true text none = none
 
-SpellsLine-no_feed : (text : List ℕ) (line : Line) → SpellsLine text line → list_any is_feed text ≡ false
-SpellsLine-no_feed text (Do inner) spelled = SpellsInner-no_feed text inner spelled
-SpellsLine-no_feed text (Down member) (i, is_i, is) = ap (list_any is_feed) is ∙ number_on_line i member is_i
-SpellsLine-no_feed text (Up member) (i, is_i, is) = ap (list_any is_feed) is ∙ number_on_line i member is_i
-SpellsLine-no_feed text (Show member) (i, is_i, is) = ap (list_any is_feed) is ∙ number_on_line i member is_i
-SpellsLine-no_feed text (Stop call keep inner) (c, e, is_c, is_e, is) =
+SpellsLine-no_feed : (shape : Shape) (text : List ℕ) (line : Line) → SpellsLine text line → IsLineOf shape line → list_any is_feed text ≡ false
+SpellsLine-no_feed shape text (Do inner) spelled inside = SpellsInner-no_feed shape text inner spelled inside
+SpellsLine-no_feed shape text (Down member) (i, is_i, is) inside = ap (list_any is_feed) is ∙ number_on_line i member is_i
+SpellsLine-no_feed shape text (Up member) (i, is_i, is) inside = ap (list_any is_feed) is ∙ number_on_line i member is_i
+SpellsLine-no_feed shape text (Show member) (i, is_i, is) inside = ap (list_any is_feed) is ∙ number_on_line i member is_i
+SpellsLine-no_feed shape text (Stop call keep inner) (c, e, is_c, is_e, is) inside =
     ap (list_any is_feed) is
-    ∙ none_of_both c (32 ∷ (keep_word keep ++ 32 ∷ e)) (number_on_line c call is_c) (keep_word-no_feed keep e (SpellsInner-no_feed e inner is_e))
+    ∙ none_of_both c (32 ∷ (keep_word keep ++ 32 ∷ e)) (number_on_line c call is_c) (keep_word-no_feed keep e (SpellsInner-no_feed shape e inner is_e inside.2))
 
 -- the bytes of a first line that has its line feed, and what comes after them
 abbrev EndsAt : List ℕ → TextLine → List TextLine → Type 0
@@ -103,7 +117,7 @@ lines_of-empty (byte ∷ bytes) h = absurd (by_feed (byte == 10) (lines_of bytes
 pub good_is_read : (shape : Shape) (number : ℕ) (text after : List ℕ) (event : Line) → IsGoodLine shape number text event
     → (lines_of (text ++ 10 ∷ after) ≡ record { text = text; ended = true } ∷ lines_of after) × (line_at shape number (record { text = text; ended = true }) ≡ Some event)
 good_is_read shape number text after event (spelled, inside, short, early) = (
-  lines_of-line text after (SpellsLine-no_feed text event spelled),
+  lines_of-line text after (SpellsLine-no_feed shape text event spelled inside),
   good_line shape number text (omega (arith, short)) early ∙ SpellsLine-read shape text event spelled inside,
 )
 

@@ -2,6 +2,7 @@ mod Examples
 mod OutputExamples
 mod CommitExamples
 mod ReplicationExamples
+mod ClientExamples
 pub mod Frames
 pub mod Positions
 pub mod Turns
@@ -13,6 +14,9 @@ pub mod Inputs
 pub mod Numerals
 pub mod Runs
 pub mod Spelling
+pub mod ByteWords
+pub mod CallWords
+pub mod Requests
 pub mod InnerLines
 pub mod ScheduleLines
 pub mod BadLines

@@ -69,10 +69,10 @@ to_0 body = messages.Peer 1 0 4 body
 abbrev refused : Message
 refused = messages.Peer 0 1 5 (peers.Refused 3)
 
-append_refused : act_of_message (to_0 (peers.Append 0 0 0 [])) ahead ≡ record { node = ahead; records = []; sends = refused ∷ [] }
+append_refused : act_of_message (to_0 (peers.Append 0 0 0 [])) ahead ≡ record { node = ahead; records = []; replies = []; sends = refused ∷ [] }
 append_refused = refl
 
-ask_refused : act_of_message (to_0 (peers.Ask 1)) ahead ≡ record { node = ahead; records = []; sends = refused ∷ [] }
+ask_refused : act_of_message (to_0 (peers.Ask 1)) ahead ≡ record { node = ahead; records = []; replies = []; sends = refused ∷ [] }
 ask_refused = refl
 
 answer_dropped : act_of_message (to_0 (peers.Answer 1 2 [])) ahead ≡ stays ahead
@@ -82,7 +82,7 @@ answer_dropped = refl
 
 -- the same member, which has been quiet for long, in another role
 abbrev ahead_as : Role → Durable → Node
-ahead_as role durable = record ahead { durable = durable; volatile = record { role = role; quiet = 100; hint = None; heard = []; first = 0 } }
+ahead_as role durable = record ahead { durable = durable; volatile = record { role = role; quiet = 100; hint = None; heard = []; first = 0; calls = [] } }
 
 -- who stands records its term and its own vote; a vote for another is recorded once
 stands_recorded : (act_of (Tick 0) (ahead_as Follower ahead.durable)).records ≡ records.Term 6 (Some 0) ∷ []
@@ -100,11 +100,11 @@ abbrev rebuilt : Durable
 rebuilt = record ahead.durable { commit = 3 }
 
 prepared : changes_told (ahead_as Preparing ahead.durable)
-    (record { node = ahead_as Leader rebuilt; records = records.Whole 2 (7 ∷ []) ∷ records.Cut 3 ∷ records.Whole 4 (8 ∷ []) ∷ records.Commit 3 ∷ []; sends = [] })
+    (record { node = ahead_as Leader rebuilt; records = records.Whole 2 (7 ∷ []) ∷ records.Cut 3 ∷ records.Whole 4 (8 ∷ []) ∷ records.Commit 3 ∷ []; replies = []; sends = [] })
     ≡ outputs.Role Leader 5 ∷ outputs.Cut 3 true ∷ outputs.Whole 2 ∷ outputs.Whole 4 ∷ outputs.Commit 3 ∷ []
 prepared = refl
 
 cut_by_a_leader : changes_told (ahead_as Preparing ahead.durable)
-    (record { node = ahead_as Follower (record ahead.durable { term = 6 }); records = records.Term 6 None ∷ records.Cut 3 ∷ []; sends = [] })
+    (record { node = ahead_as Follower (record ahead.durable { term = 6 }); records = records.Term 6 None ∷ records.Cut 3 ∷ []; replies = []; sends = [] })
     ≡ outputs.Role Follower 6 ∷ outputs.Cut 3 false ∷ []
 cut_by_a_leader = refl

@@ -4,8 +4,10 @@ pub mod Bodies
 pub mod Records
 pub mod Knowing
 pub mod Acts
-pub mod Applying
 pub mod Starts
+pub mod Values
+pub mod Replies
+pub mod Applying
 pub mod Batches
 pub mod Orders
 pub mod Say
@@ -15,7 +17,8 @@ pub mod Vote
 pub mod Prepare
 pub mod VoteReply
 pub mod Matched
-pub mod Values
+pub mod Requests
+pub mod Call
 pub mod Completions
 pub mod Taking
 pub mod Masks

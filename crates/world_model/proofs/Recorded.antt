@@ -5,7 +5,7 @@ use Rattle.entry_frames.specs.Durable.{Durable, applied, after}
 use Rattle.craft_base.specs.Knowledge.{Matched}
 use Rattle.craft_base.specs.declared.command.Entry.{Entry}
 use Rattle.entry_frames.specs.Limits.{last_place}
-use Rattle.entry_frames.specs.Records.{Record, Add, Commit}
+use Rattle.entry_frames.specs.Records.{Record, Add}
 use Rattle.entry_frames.specs.declared.message.Message.{Message}
 use Rattle.entry_frames.specs.declared.message.Message.TheVariants as messages
 use Rattle.entry_frames.specs.declared.peer.Peer.{Peer}
@@ -15,7 +15,13 @@ use Rattle.entry_frames.specs.declared.role.Role.TheVariants.{Follower, Candidat
 use Rattle.world_model.specs.Nodes.{Node, node_hearing}
 use Rattle.world_model.specs.Rules.Acts.{Act, stays, recording, followed_by, IsRecorded}
 use Rattle.world_model.specs.Rules.Append.{act_of_append_as, act_of_entries, act_of_heard_append, act_of_match, act_of_refusal, act_of_suited, act_of_taking, difference, following, has_before, is_clash}
-use Rattle.world_model.specs.Rules.Applying.{act_of_commit}
+use Rattle.world_model.specs.Rules.Applying.{act_of_applying, act_of_commit}
+use Rattle.kv_apply.specs.Commands.{kept_of}
+use Rattle.kv_apply.specs.declared.outcome.Kept.{Kept}
+use Rattle.kv_apply.specs.declared.outcome.Kept.TheVariants as keeps
+use Rattle.craft_base.specs.declared.command.Reply.TheVariants as replies
+use Rattle.craft_base.specs.declared.command.Request.{Request}
+use Rattle.world_model.specs.Rules.Call.{act_of_asking, act_of_call_as, act_of_new_request, act_of_reply, act_of_request, applied_heads, is_busy, is_full}
 use Rattle.world_model.specs.Rules.Matched.{act_of_matched_as, act_of_next, act_of_progress, act_of_refused_as, commit_of_leader, log_heard}
 use Rattle.world_model.specs.Rules.Prepare.{act_of_leading, act_of_noop, noop}
 use Rattle.world_model.specs.Rules.Terms.{act_of_higher_term, act_of_term, act_of_lower_term}
@@ -66,7 +72,7 @@ leading_recorded : (n : Node) → IsRecorded n (act_of_leading n)
 leading_recorded n = noop_recorded n
 
 pub commit_recorded : (index : ℕ) (n : Node) → IsRecorded n (act_of_commit index n)
-commit_recorded index n = cond_both (nat_lt n.durable.commit index) (recording (Commit index) (stays n)) (stays n) (IsRecorded n) (λ grows. refl) (λ same. refl)
+commit_recorded index n = cond_both (nat_lt n.durable.commit index) (act_of_applying index n) (stays n) (IsRecorded n) (λ grows. refl) (λ same. refl)
 
 -- entries that are taken, and how far they are committed
 taking_recorded : (leader prev commit : ℕ) (entries : List Entry) (n : Node) → IsRecorded n (act_of_taking leader prev commit entries n)
@@ -137,7 +143,24 @@ message_recorded (messages.Peer sender receiver term body) n =
 message_recorded (messages.Request receiver request) n = refl
 message_recorded (messages.Answered sender client seq reply) n = refl
 
+-- a request is recorded where it is added, and an answer isn't
+new_request_recorded : (place : ℕ) (r : Request) (n : Node) → IsRecorded n (act_of_new_request place r n)
+new_request_recorded place r n =
+    cond_both (is_full n.durable.log) (act_of_reply place r replies.Full n) _ (IsRecorded n) (λ full. refl)
+    (λ room. cond_both (is_busy n.durable.commit n.durable.log) (act_of_reply place r replies.Busy n) (act_of_asking place r n) (IsRecorded n) (λ busy. refl) (λ free. refl))
+
+request_recorded : (place : ℕ) (r : Request) (kept : Kept) (n : Node) → IsRecorded n (act_of_request place r kept n)
+request_recorded place r keeps.New n = new_request_recorded place r n
+request_recorded place r (keeps.Same outcome) n = refl
+request_recorded place r keeps.Old n = refl
+
+call_as_recorded : (role : Role) (place : ℕ) (r : Request) (n : Node) → IsRecorded n (act_of_call_as role place r n)
+call_as_recorded Follower place r n = refl
+call_as_recorded Candidate place r n = refl
+call_as_recorded Preparing place r n = refl
+call_as_recorded Leader place r n = request_recorded place r (kept_of r.client r.seq (applied_heads n)) n
+
 pub every_turn_is_recorded : EveryTurnIsRecorded
 every_turn_is_recorded (Tick word) n = tick_as_recorded n word n.volatile.role
 every_turn_is_recorded (Frame m) n = message_recorded m n
-every_turn_is_recorded (Call place request) n = refl
+every_turn_is_recorded (Call place request) n = call_as_recorded n.volatile.role place request n

@@ -13,10 +13,10 @@ use Rattle.world_model.specs.Numbers.{number_of}
 use Rattle.world_model.specs.Schedule.{inner_of_words, line_in, line_of_words, member_of, member_of_words, stop_of, stop_of_words}
 use Rattle.world_model.specs.Spelling.{IsNumber, IsLineOf, IsMemberOf, SpellsLine, SpellsMember, keep_word, spaced}
 use Rattle.world_model.specs.declared.line.Inner.{Inner}
-use Rattle.world_model.specs.declared.line.Inner.TheVariants.{Tick, Take}
+use Rattle.world_model.specs.declared.line.Inner.TheVariants.{Tick, Take, Call}
 use Rattle.world_model.specs.declared.line.Line.{Line}
 use Rattle.world_model.specs.declared.line.Line.TheVariants.{Do, Down, Up, Show, Stop}
-use Rattle.world_model.proofs.InnerLines.{is_blank, inner_in, number_first, number_last, tick_words, take_words, SpellsInner-read, inner_by_words, one_inner, some_inner}
+use Rattle.world_model.proofs.InnerLines.{is_blank, call_split, call_words, inner_in, number_first, number_last, tick_words, take_words, SpellsInner-read, inner_by_words, one_inner, some_inner}
 use Rattle.world_model.proofs.Spelling.{IsNumber-small, IsNumber-decimal, IsNumber-read, read-IsNumber, decimal-IsNumber}
 
 -- ---- what is spelled is read
@@ -80,6 +80,9 @@ SpellsLine-read shape text (Do (Tick member word)) (i, w, is_i, is_w, is) inside
 SpellsLine-read shape text (Do (Take frame)) (m, is_m, is) inside =
     done_read shape text (codes "take" ∷ m ∷ []) (Take frame) (ap (slice_split is_blank) is ∙ take_words m frame is_m) refl
     (SpellsInner-read shape text (Take frame) (m, is_m, is) inside)
+SpellsLine-read shape text (Do (Call member r)) (i, c, s, o, is_i, is_c, is_s, is_o, is) inside =
+    done_read shape text (call_words i c s o r) (Call member r) (ap (slice_split is_blank) is ∙ call_split i c s o member r is_i is_c is_s is_o inside.2) refl
+    (SpellsInner-read shape text (Call member r) (i, c, s, o, is_i, is_c, is_s, is_o, is) inside)
 SpellsLine-read shape text (Down member) (i, is_i, is) inside =
     let words : slice_split is_blank text ≡ codes "down" ∷ i ∷ [] = ap (slice_split is_blank) is ∙ ap (λ ws. codes "down" ∷ ws) (number_last i member is_i) in
     by_words shape text (codes "down" ∷ i ∷ []) words ∙ ap (option_map Down) (member_read shape i member is_i inside)

@@ -4,8 +4,10 @@ use Rattle.std.specs.Prelude.{◌≢◌, ◌==◌, ◌↔◌, nat_lt, if◌then�
 use Rattle.std.specs.Char.{is_ascii_digit}
 use Rattle.std.specs.Fmt.{decimal}
 use Rattle.std.specs.Int.{IsInRange}
+use Rattle.std.specs.List.{All}
 use Rattle.std.specs.Str.{all_ascii_digits}
 use Rattle.std.proofs.lemmas.Bool.Decides.{nat_tests}
+use Rattle.std.proofs.lemmas.List.Elements.{All-nil, All-cons}
 use Rattle.std.proofs.lemmas.Fmt.{decimal_nonempty, decimal_digit, first_decimal, digits_decimal, digits_value-decimal, decimal-digits_value}
 use Rattle.std.proofs.lemmas.Str.Parse.{IsNumeralModel, numerals_by_weight, tells_all_ascii_digits}
 use Rattle.world_model.specs.Numbers.{digits_after, is_numeral, number_of}
@@ -139,3 +141,15 @@ decimal-IsNumber (suc n) small =
     let numeral : is_numeral (decimal (suc n)) ≡ true =
     digits-numeral (decimal (suc n)) digits (decimal_nonempty (suc n) small) (first_decimal (suc n) (omega arith) small) in
     numeral-IsNumber (decimal (suc n)) (suc n) numeral (digits_value-decimal own (suc n) small) small
+
+-- a digit isn't a byte below 0, as a blank and a line feed are
+no_digit : (c : ℕ) (bytes : List ℕ) → c < 48 → all_ascii_digits bytes ≡ true → All (λ byte. (byte == c) ≡ false) bytes
+no_digit c [] low digits = All-nil (λ byte. (byte == c) ≡ false)
+no_digit c (byte ∷ bytes) low digits =
+    let parts = both_parts (is_ascii_digit byte) (all_ascii_digits bytes) digits in
+    All-cons (λ byte. (byte == c) ≡ false) byte bytes (other byte c low parts.0) (no_digit c bytes low parts.1) where
+      other : (byte c : ℕ) → c < 48 → is_ascii_digit byte ≡ true → (byte == c) ≡ false
+      other byte c low digit = grind (arith, nat_tests)
+
+pub number_without : (c : ℕ) (word : List ℕ) (n : ℕ) → c < 48 → IsNumber word n → All (λ byte. (byte == c) ≡ false) word
+number_without c word n low h = no_digit c word low (numeral_digits word (IsNumber-numeral word n h))

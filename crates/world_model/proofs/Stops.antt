@@ -1,5 +1,5 @@
 -- A stop that is carried out: where its records count it is the done event with its outputs lost, and then down; else it is down alone.
--- So what each other event keeps, and what the loss of messages keeps, a stop keeps too.
+-- So what each other event keeps, and what the loss of messages and replies keeps, a stop keeps too.
 use Rattle.std.proofs.Common.{◌≡◌, ℕ, List, ◌++◌, Bool, true, false, Option, None, Some, slice_get, length, take, refl, ap, ◌∙◌, subst}
 use Rattle.std.specs.List.{All}
 use Rattle.std.proofs.Math.Seq.{take-append_seam}
@@ -14,9 +14,9 @@ use Rattle.world_model.specs.declared.line.Line.TheVariants.{Do, Stop}
 use Rattle.world_model.specs.declared.verdict.Verdict.TheVariants as verdicts
 use Rattle.world_model.proofs.Positions.{set_here, set_twice}
 
--- the later world, where what was sent since the earlier one is lost
+-- the later world, where what was told since the earlier one is lost
 abbrev pub unsaid : World → World → World
-unsaid w now = record now { sent = w.sent }
+unsaid w now = record now { sent = w.sent; replies = w.replies }
 
 -- what holds of all that was said held of all that was said before
 pub said_before : (P : Message → Type 0) (w now : World) (more : List Message) → now.sent ≡ w.sent ++ more → All P now.sent → All P w.sent

@@ -8,8 +8,9 @@ use Rattle.entry_frames.specs.declared.output.Output.TheVariants as outputs
 use Rattle.world_model.specs.Nodes.{Node}
 use Rattle.world_model.specs.Rules.Acts.{Act, stays}
 use Rattle.world_model.specs.Rules.Terms.{act_of_higher_term, act_of_term}
-use Rattle.world_model.specs.Turn.{is_same_role, is_preparation, role_outputs, cut_outputs, whole_outputs, commit_outputs, changes_told, turned}
+use Rattle.world_model.specs.Turn.{is_same_role, is_preparation, role_outputs, cut_outputs, whole_outputs, commit_outputs, changes_told, reply_output, turned}
 use Rattle.world_model.specs.World.{sent_among}
+use Rattle.world_model.specs.declared.call.ClientReply.{ClientReply}
 
 -- a node that takes a message that isn't of a lower term does so in the message's term
 pub caught_up : (n : Node) (term : ℕ) → nat_lt term n.durable.term ≡ false → (act_of_term term n).node.durable.term ≡ term
@@ -68,8 +69,18 @@ none_by_changes before act =
     (none_of_both (cut_outputs (is_preparation before act.node) act.records) _ (none_by_cuts (is_preparation before act.node) act.records)
     (none_of_both (whole_outputs act.records) _ (none_by_wholes act.records) (none_by_commit before act.node)))
 
+-- nor by what clients are told
+none_by_replies : (replies : List ClientReply) → sent_among (map reply_output replies) ≡ []
+none_by_replies [] = refl
+none_by_replies (r ∷ replies) = none_by_replies replies
+
+told_and_sent : (act : Act) → sent_among (map reply_output act.replies ++ map outputs.Send act.sends) ≡ act.sends
+told_and_sent act =
+    sent_among-append (map reply_output act.replies) (map outputs.Send act.sends)
+    ∙ ap (λ sent. sent ++ sent_among (map outputs.Send act.sends)) (none_by_replies act.replies) ∙ sent_among-sends act.sends
+
 -- what a turn puts on the network is what the rule sends
 pub sent_among-turned : (before : Node) (act : Act) → sent_among (turned before act).outputs ≡ act.sends
 sent_among-turned before act =
-    sent_among-append (changes_told before act) (map outputs.Send act.sends)
-    ∙ ap (λ sent. sent ++ sent_among (map outputs.Send act.sends)) (none_by_changes before act) ∙ sent_among-sends act.sends
+    sent_among-append (changes_told before act) (map reply_output act.replies ++ map outputs.Send act.sends)
+    ∙ ap (λ sent. sent ++ sent_among (map reply_output act.replies ++ map outputs.Send act.sends)) (none_by_changes before act) ∙ told_and_sent act

@@ -7,6 +7,7 @@ pub mod World
 pub mod Tallies
 pub mod Lines
 pub mod Numbers
+pub mod Calls
 pub mod Schedule
 pub mod Words
 pub mod Spelling

@@ -1,20 +1,23 @@
 -- How great the numbers of a world become: each message that was sent can be written as bytes.
-use Rattle.std.specs.Prelude.{◌≡◌, ℕ, ◌+◌, ◌<◌, ◌≤◌, List, length, All, Some, slice_get}
+use Rattle.std.specs.Prelude.{◌≡◌, ℕ, ◌+◌, ◌<◌, ◌≤◌, List, length, All, Option, None, Some, slice_get}
 use Rattle.craft_base.specs.Shape.{Shape, IsShape, members_of}
 use Rattle.craft_base.specs.Knowledge.{Heard, Told, Answered, Beat, From, Matched, Refused, Voted}
 use Rattle.entry_frames.specs.Durable.{CanApplyAll}
 use Rattle.entry_frames.specs.Formats.{Fits}
 use Rattle.entry_frames.specs.Limits.{greatest}
-use Rattle.entry_frames.specs.MessageFields.{frame_fields}
+use Rattle.entry_frames.specs.MessageFields.{frame_fields, request_fields}
 use Rattle.entry_frames.specs.MessageParts.{IsPeer, receiver_byte}
 use Rattle.entry_frames.specs.Stored.{DurableInRange}
 use Rattle.entry_frames.specs.declared.role.Role.{Role}
 use Rattle.entry_frames.specs.declared.role.Role.TheVariants.{Leader}
 use Rattle.entry_frames.specs.declared.message.Message.{Message}
+use Rattle.entry_frames.specs.declared.message.Message.TheVariants as messages
 use Rattle.world_model.specs.Nodes.{Node}
 use Rattle.world_model.specs.Safety.{IsRun}
 use Rattle.world_model.specs.Turn.{Event, Tick, Frame, Call, act_of}
 use Rattle.world_model.specs.World.{Member, World, node_of, run}
+use Rattle.world_model.specs.declared.call.Called.{Called}
+use Rattle.world_model.specs.declared.call.ClientReply.{ClientReply}
 use Rattle.world_model.specs.declared.line.Line.{Line}
 
 -- a term in which something was said or proposed
@@ -48,29 +51,57 @@ abbrev pub KnowsInRange : Role → (last first : ℕ) → List Heard → Type 0
 KnowsInRange Leader last first heard = (1 ≤ first) × (first ≤ last + 1) × All (ItemInRange last) heard × (1 ≤ last)
 KnowsInRange _ last first heard = All IsOfNoLog heard
 
+-- a number of a client, or of a request of its
+abbrev pub IsClientNumber : ℕ → Type 0
+IsClientNumber n = (1 ≤ n) × (n ≤ greatest)
+
+-- whom it names as the leader is a member
+abbrev pub HintInRange : Shape → Option ℕ → Type 0
+HintInRange shape None = Unit {0}
+HintInRange shape (Some member) = IsMember shape member
+
+-- the client and the number of a request that waits for its answer
+abbrev pub CallInRange : Called → Type 0
+CallInRange c = IsClientNumber c.client × IsClientNumber c.seq
+
+-- what a member may tell clients: who it takes for the leader is a member, and each request that waits has a client and a number
+abbrev pub ClientsInRange : Shape → Option ℕ → List Called → Type 0
+ClientsInRange shape hint calls = HintInRange shape hint × All CallInRange calls
+
 -- the node at a position of the world is that member of the cluster, and its numbers are in range
 pub record NodeInRange (shape : Shape) (member : ℕ) (n : Node) : Type 0 where
   pub of_shape : n.shape ≡ shape
   pub me : n.me ≡ member
   pub is_member : IsMember shape member
   pub durable : DurableInRange shape n.durable
+  pub clients : ClientsInRange shape n.volatile.hint n.volatile.calls
   pub knows : KnowsInRange n.volatile.role (length n.durable.log) n.volatile.first n.volatile.heard
 
 -- the message goes from one member to another, and has a spelling as a frame of the cluster
 abbrev pub HasSpelling : Shape → Message → Type 0
 HasSpelling shape m = IsPeer m × Fits (frame_fields shape) m
 
--- what the node can be told: of messages, those to it that have a spelling
+-- a reply of that member can be written as a frame of the cluster
+abbrev pub ReplyHasSpelling : Shape → ℕ → ClientReply → Type 0
+ReplyHasSpelling shape member r = Fits (frame_fields shape) (messages.Answered member r.client r.seq r.reply)
+
+-- what the node can be told: of messages, those to it that have a spelling, and of requests those that have one
 abbrev pub EventInRange : Shape → (member : ℕ) → Event → Type 0
 EventInRange shape member (Tick word) = Unit {0}
 EventInRange shape member (Frame m) = HasSpelling shape m × (receiver_byte m ≡ member)
-EventInRange shape member (Call place request) = Unit {0}
+EventInRange shape member (Call place request) = Fits request_fields request
 
 -- so the records of its turn can be applied in order, each to what those before it leave
 abbrev pub EveryTurnCanBeApplied : Type 0
 EveryTurnCanBeApplied =
     (shape : Shape) (member : ℕ) (n : Node) (event : Event) → IsShape shape → NodeInRange shape member n → EventInRange shape member event →
     CanApplyAll shape n.durable (act_of event n).records
+
+-- and its replies can be written
+abbrev pub EveryReplyHasSpelling : Type 0
+EveryReplyHasSpelling =
+    (shape : Shape) (member : ℕ) (n : Node) (event : Event) → IsShape shape → NodeInRange shape member n → EventInRange shape member event →
+    All (ReplyHasSpelling shape member) (act_of event n).replies
 
 -- the world is of that cluster, each of its members is in range, as the node as which it runs or would start, and each message that
 -- was ever sent has a spelling

@@ -7,5 +7,6 @@ pub mod Vote
 pub mod Prepare
 pub mod VoteReply
 pub mod Applying
+pub mod Call
 pub mod Append
 pub mod Matched

@@ -1,15 +1,19 @@
 -- What holds of every run.
-use Rattle.std.specs.Prelude.{◌≡◌, ◌≢◌, ℕ, ◌+◌, ◌<◌, ◌≤◌, ◌⊎◌, List, [], ◌∷◌, ◌++◌, take, All, ◌&&◌, ◌==◌, nat_lt, if◌then◌else◌, Option, None, Some, slice_get}
+use Rattle.std.specs.Prelude.{◌≡◌, ◌≢◌, ℕ, ◌+◌, ◌-◌, ◌<◌, ◌≤◌, ◌⊎◌, List, [], ◌∷◌, ◌++◌, map, reverse, take, All, true, ◌&&◌, ◌==◌, nat_lt, if◌then◌else◌, Option, None, Some, slice_get}
 use Rattle.craft_base.specs.Shape.{Shape, IsShape}
 use Rattle.craft_base.specs.declared.command.Entry.{Entry}
 use Rattle.craft_base.specs.declared.command.Form.TheVariants as forms
+use Rattle.craft_base.specs.declared.command.Head.{Head}
+use Rattle.craft_base.specs.declared.command.Reply.{Reply}
+use Rattle.craft_base.specs.declared.command.Reply.TheVariants as replies
 use Rattle.entry_frames.specs.Durable.{Durable, born}
 use Rattle.entry_frames.specs.Logs.{entry_at, term_at}
 use Rattle.entry_frames.specs.declared.role.Role.{Role}
 use Rattle.entry_frames.specs.declared.role.Role.TheVariants.{Preparing, Leader}
+use Rattle.kv_apply.specs.Commands.{is_of, map_reply}
 use Rattle.world_model.specs.Nodes.{Volatile}
 use Rattle.world_model.specs.Spelling.{IsLineOf}
-use Rattle.world_model.specs.Traces.{Command, LeaderCommit, Proposal, Removal}
+use Rattle.world_model.specs.Traces.{Command, LeaderCommit, Proposal, Removal, Replied}
 use Rattle.world_model.specs.World.{Member, World, run}
 use Rattle.world_model.specs.declared.line.Line.{Line}
 
@@ -109,10 +113,45 @@ RemovesUncommitted w =
     (cut : Removal) (commit : LeaderCommit) → IsIn cut w.cuts → IsIn commit w.commits → commit.term ≤ cut.term →
     StandsIn cut.index cut.entries commit.log → ⊥
 
+-- ---- what clients are told
+
+-- the heads of some commands, the latest first
+abbrev pub heads_in : List Command → List Head
+heads_in commands = reverse (map (λ c. c.head) commands)
+
+abbrev pub value_of_command : Option Command → List ℕ
+value_of_command None = []
+value_of_command (Some command) = command.value
+
+-- the value of the command with that index
+abbrev pub value_in : List Command → ℕ → List ℕ
+value_in commands index = value_of_command (slice_get commands (index - 1))
+
+-- a command of that client with a greater number is among them
+abbrev pub HasGreater : List Command → (client seq : ℕ) → Type 0
+HasGreater commands client seq = (command : Command) × IsIn command commands × (is_of client command.head ≡ true) × (seq < command.head.seq)
+
+-- The reply to the request of that client with that number is the one of one map that took these commands, each number of a client
+-- once; or there is a greater number, where it says so. A refusal tells nothing of the map.
+abbrev pub IsOfOneMap : List Command → (client seq : ℕ) → Reply → Type 0
+IsOfOneMap commands client seq replies.Old = HasGreater commands client seq
+IsOfOneMap commands client seq (replies.Elsewhere hint) = Unit {0}
+IsOfOneMap commands client seq replies.Preparing = Unit {0}
+IsOfOneMap commands client seq replies.Busy = Unit {0}
+IsOfOneMap commands client seq replies.Full = Unit {0}
+IsOfOneMap commands client seq reply = map_reply (value_in commands) client seq (heads_in commands) ≡ Some reply
+
+-- what is committed is a list of commands, and all that clients were told is told of it
+pub record AnswersAsOneMap (w : World) : Type 0 where
+  pub commands : List Command
+  pub are : committed w ≡ map Some commands
+  pub replies : (r : Replied) → IsIn r w.replies → IsOfOneMap commands r.client r.seq r.reply
+
 -- The run is safe: one list of commands is committed, for all members and for ever; no entry is removed that a leader of a term up
--- to the remover's commits; and no term has two leaders.
+-- to the remover's commits; clients are answered as by one map that took this list; and no term has two leaders.
 pub record IsSafe (shape : Shape) (events : List Line) : Type 0 where
   pub one_list : HoldsCommitted (run shape events)
   pub stays : StaysCommitted shape events
   pub removes : RemovesUncommitted (run shape events)
+  pub replies : AnswersAsOneMap (run shape events)
   pub one_leader : OneLeaderATerm shape events

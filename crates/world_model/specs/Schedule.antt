@@ -4,9 +4,11 @@ use Rattle.std.specs.List.{slice_split}
 use Rattle.std.specs.Option.{option_map}
 use Rattle.std.specs.Str.{bytes_eq}
 use Rattle.craft_base.specs.Shape.{Shape, members_of}
+use Rattle.craft_base.specs.declared.command.Request.{Request}
+use Rattle.world_model.specs.Calls.{request_in}
 use Rattle.world_model.specs.Numbers.{number_of}
 use Rattle.world_model.specs.declared.line.Inner.{Inner}
-use Rattle.world_model.specs.declared.line.Inner.TheVariants.{Tick, Take}
+use Rattle.world_model.specs.declared.line.Inner.TheVariants.{Tick, Take, Call}
 use Rattle.world_model.specs.declared.line.Line.{Line}
 use Rattle.world_model.specs.declared.line.Line.TheVariants.{Do, Down, Up, Show, Stop}
 
@@ -28,22 +30,33 @@ abbrev pub take_of : Option ℕ → Option Inner
 take_of None = None
 take_of (Some frame) = if nat_le 1 frame then Some (Take frame) else None
 
+-- a member of the cluster
+abbrev pub member_of : Shape → Option ℕ → Option ℕ
+member_of shape None = None
+member_of shape (Some member) = if nat_lt member (members_of shape) then Some member else None
+
+-- `call i client seq op key value`
+abbrev pub call_of : Option ℕ → Option Request → Option Inner
+call_of None request = None
+call_of (Some member) None = None
+call_of (Some member) (Some request) = Some (Call member request)
+
 abbrev pub tick_line : Shape → List ℕ → List ℕ → List ℕ → Option Inner
 tick_line shape name member word = if bytes_eq name (codes "tick") then tick_of shape (number_of member) (number_of word) else None
 
 abbrev pub take_line : List ℕ → List ℕ → Option Inner
 take_line name frame = if bytes_eq name (codes "take") then take_of (number_of frame) else None
 
+abbrev pub call_line : Shape → (name member client seq op key value : List ℕ) → Option Inner
+call_line shape name member client seq op key value =
+    if bytes_eq name (codes "call") then call_of (member_of shape (number_of member)) (request_in client seq op key value) else None
+
 -- what the words of a line say that is to happen to a member
 abbrev pub inner_of_words : Shape → List (List ℕ) → Option Inner
 inner_of_words shape (name ∷ member ∷ word ∷ []) = tick_line shape name member word
 inner_of_words shape (name ∷ frame ∷ []) = take_line name frame
+inner_of_words shape (name ∷ member ∷ client ∷ seq ∷ op ∷ key ∷ value ∷ []) = call_line shape name member client seq op key value
 inner_of_words shape _ = None
-
--- a member of the cluster
-abbrev pub member_of : Shape → Option ℕ → Option ℕ
-member_of shape None = None
-member_of shape (Some member) = if nat_lt member (members_of shape) then Some member else None
 
 -- the words behind `down`, `up` or `show`: a member alone
 abbrev pub member_of_words : Shape → List (List ℕ) → Option ℕ

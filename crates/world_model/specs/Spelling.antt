@@ -2,11 +2,15 @@
 use Rattle.std.specs.Prelude.{◌≡◌, ◌≢◌, ℕ, ◌+◌, ◌*◌, ◌^◌, ◌<◌, ◌≤◌, List, [], ◌∷◌, ◌++◌, length, codes, Bool, true, false}
 use Rattle.std.specs.List.{join_with_byte}
 use Rattle.craft_base.specs.Shape.{Shape, IsShape, members_of}
+use Rattle.craft_base.specs.declared.command.Op.{Op}
+use Rattle.craft_base.specs.declared.command.Op.TheVariants as ops
+use Rattle.world_model.specs.Calls.{IsRequest}
+use Rattle.world_model.specs.Lines.{bytes_word}
 use Rattle.world_model.specs.Schedule.{most_lines, longest_line}
 use Rattle.world_model.specs.declared.command.Command.{Command}
 use Rattle.world_model.specs.declared.command.Command.TheVariants.{Replay, Split, Join}
 use Rattle.world_model.specs.declared.line.Inner.{Inner}
-use Rattle.world_model.specs.declared.line.Inner.TheVariants.{Tick, Take}
+use Rattle.world_model.specs.declared.line.Inner.TheVariants.{Tick, Take, Call}
 use Rattle.world_model.specs.declared.line.Line.{Line}
 use Rattle.world_model.specs.declared.line.Line.TheVariants.{Do, Down, Up, Show, Stop}
 
@@ -26,16 +30,29 @@ IsNumber (byte ∷ next ∷ bytes) n = (byte ≢ 48) × AreDigits (byte ∷ next
 abbrev pub spaced : List (List ℕ) → List ℕ
 spaced words = join_with_byte 32 words
 
--- what is to happen to a member as a line, without its line feed: `tick i word` or `take m`
+-- the word of what a request does: its name, and behind `putif=` the version that it expects. There is none for a Noop.
+abbrev pub SpellsOp : List ℕ → Op → Type 0
+SpellsOp word ops.Noop = ⊥
+SpellsOp word ops.Put = word ≡ codes "put"
+SpellsOp word (ops.PutIf version) = (n : List ℕ) × IsNumber n version × (word ≡ codes "putif=" ++ n)
+SpellsOp word ops.Del = word ≡ codes "del"
+SpellsOp word ops.Get = word ≡ codes "get"
+
+-- what is to happen to a member as a line, without its line feed: `tick i word`, `take m` or `call i client seq op key value`
 abbrev pub SpellsInner : List ℕ → Inner → Type 0
 SpellsInner line (Tick member word) =
     (i : List ℕ) × (w : List ℕ) × IsNumber i member × IsNumber w word × (line ≡ spaced (codes "tick" ∷ i ∷ w ∷ []))
 SpellsInner line (Take frame) = (m : List ℕ) × IsNumber m frame × (line ≡ spaced (codes "take" ∷ m ∷ []))
+SpellsInner line (Call member request) =
+    (i : List ℕ) × (c : List ℕ) × (s : List ℕ) × (o : List ℕ)
+    × IsNumber i member × IsNumber c request.client × IsNumber s request.seq × SpellsOp o request.op
+    × (line ≡ spaced (codes "call" ∷ i ∷ c ∷ s ∷ o ∷ bytes_word request.key ∷ bytes_word request.value ∷ []))
 
--- its numbers are in range: the member is one of the cluster's, and frames are numbered from 1
+-- it is in range: the member is one of the cluster's, frames are numbered from 1, and a request is one that a client can ask for
 abbrev pub IsInnerOf : Shape → Inner → Type 0
 IsInnerOf shape (Tick member word) = (member < members_of shape) × (member < 2 ^ 64) × (word < 2 ^ 64)
 IsInnerOf shape (Take frame) = (1 ≤ frame) × (frame < 2 ^ 64)
+IsInnerOf shape (Call member request) = (member < members_of shape) × (member < 2 ^ 64) × IsRequest request
 
 -- a word and a member
 abbrev pub SpellsMember : List ℕ → List ℕ → ℕ → Type 0

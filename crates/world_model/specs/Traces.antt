@@ -2,9 +2,12 @@
 use Rattle.std.specs.Prelude.{ℕ, ◌+◌, ◌-◌, List, [], ◌∷◌, ◌++◌, length, take, drop, Bool, true, false, if◌then◌else◌}
 use Rattle.craft_base.specs.declared.command.Entry.{Entry}
 use Rattle.craft_base.specs.declared.command.Head.{Head}
+use Rattle.craft_base.specs.declared.command.Reply.{Reply}
 use Rattle.entry_frames.specs.Durable.{Durable, applied}
 use Rattle.entry_frames.specs.Entries.{form_bytes}
 use Rattle.entry_frames.specs.Records.{Record, Add, Cut, Commit}
+use Rattle.entry_frames.specs.declared.output.Output.{Output}
+use Rattle.entry_frames.specs.declared.output.Output.TheVariants as outputs
 use Rattle.entry_frames.specs.declared.role.Role.{Role}
 use Rattle.entry_frames.specs.declared.role.Role.TheVariants.{Preparing, Leader}
 
@@ -35,6 +38,14 @@ pub record LeaderCommit : Type 0 where
   pub event : ℕ
   pub term : ℕ
   pub log : List Entry
+
+-- what a client was told: the event, the member that told it, the client and its number for the request, and the reply
+pub record Replied : Type 0 where
+  pub event : ℕ
+  pub member : ℕ
+  pub client : ℕ
+  pub seq : ℕ
+  pub reply : Reply
 
 -- whether a member of that role has won its term: then what it adds to its log is its own doing, and what it commits it has counted
 abbrev pub has_won_term : Role → Bool
@@ -81,3 +92,12 @@ all_commits_in event d (r ∷ records) = commits_of event d r ++ all_commits_in 
 
 abbrev pub leader_commits_in : (event : ℕ) → Role → Durable → List Record → List LeaderCommit
 leader_commits_in event role d records = if has_won_term role then all_commits_in event d records else []
+
+-- ---- the outputs of a turn
+
+-- what clients were told among some outputs
+abbrev pub replies_told : (event member : ℕ) → List Output → List Replied
+replies_told event member [] = []
+replies_told event member (outputs.Reply place client seq reply ∷ told) =
+    record { event = event; member = member; client = client; seq = seq; reply = reply } ∷ replies_told event member told
+replies_told event member (_ ∷ told) = replies_told event member told

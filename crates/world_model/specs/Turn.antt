@@ -13,11 +13,13 @@ use Rattle.entry_frames.specs.declared.role.Role.TheVariants.{Follower, Candidat
 use Rattle.world_model.specs.Nodes.{Node}
 use Rattle.world_model.specs.Rules.Acts.{Act, stays, followed_by, IsRecorded}
 use Rattle.world_model.specs.Rules.Append.{act_of_append}
+use Rattle.world_model.specs.Rules.Call.{act_of_call}
 use Rattle.world_model.specs.Rules.Matched.{act_of_matched, act_of_refused}
 use Rattle.world_model.specs.Rules.Terms.{act_of_term, act_of_lower_term}
 use Rattle.world_model.specs.Rules.Tick.{act_of_tick}
 use Rattle.world_model.specs.Rules.Vote.{act_of_vote_request}
 use Rattle.world_model.specs.Rules.VoteReply.{act_of_vote_reply}
+use Rattle.world_model.specs.declared.call.ClientReply.{ClientReply}
 
 -- what a node is told
 pub data Event : Type 0 where
@@ -25,7 +27,7 @@ pub data Event : Type 0 where
   Tick : (word : ℕ) → Event
   -- a message comes
   Frame : Message → Event
-  -- a client asks; no rule takes it yet
+  -- a client asks, at that place
   Call : (place : ℕ) → Request → Event
 
 -- ---- the rule
@@ -50,7 +52,7 @@ act_of_message _ n = stays n
 abbrev pub act_of : Event → Node → Act
 act_of (Tick word) n = act_of_tick word n
 act_of (Frame m) n = act_of_message m n
-act_of (Call place request) n = stays n
+act_of (Call place request) n = act_of_call place request n
 
 -- what outlives a crash is what the records of a turn leave, whatever a node is told
 abbrev pub EveryTurnIsRecorded : Type 0
@@ -96,15 +98,18 @@ changes_told before act =
     role_outputs before act.node
     ++ (cut_outputs (is_preparation before act.node) act.records ++ (whole_outputs act.records ++ commit_outputs before act.node))
 
+abbrev pub reply_output : ClientReply → Output
+reply_output r = outputs.Reply r.place r.client r.seq r.reply
+
 -- the node after a turn, the records that are to be in its journal before anything is told, and what is told: first what changed,
--- and then what is sent
+-- then what clients are told, and then what is sent
 pub record Turned : Type 0 where
   pub node : Node
   pub records : List Record
   pub outputs : List Output
 
 abbrev pub turned : Node → Act → Turned
-turned before act = record { node = act.node; records = act.records; outputs = changes_told before act ++ map outputs.Send act.sends }
+turned before act = record { node = act.node; records = act.records; outputs = changes_told before act ++ (map reply_output act.replies ++ map outputs.Send act.sends) }
 
 abbrev pub turn : Event → Node → Turned
 turn event n = turned n (act_of event n)

@@ -7,13 +7,13 @@ use Rattle.entry_frames.specs.declared.message.Message.{Message}
 use Rattle.entry_frames.specs.declared.output.Output.{Output}
 use Rattle.entry_frames.specs.declared.output.Output.TheVariants as outputs
 use Rattle.world_model.specs.declared.line.Inner.{Inner}
-use Rattle.world_model.specs.declared.line.Inner.TheVariants.{Tick, Take}
+use Rattle.world_model.specs.declared.line.Inner.TheVariants.{Tick, Take, Call}
 use Rattle.world_model.specs.declared.line.Line.{Line}
 use Rattle.world_model.specs.declared.line.Line.TheVariants as lines
 use Rattle.world_model.specs.declared.verdict.Verdict.{Verdict}
 use Rattle.world_model.specs.declared.verdict.Verdict.TheVariants.{Done, NoFrame, Skip, Stop}
 use Rattle.world_model.specs.Nodes.{Node, Volatile, fresh, node_with}
-use Rattle.world_model.specs.Traces.{LeaderCommit, Proposal, Removal, leader_commits_in, proposals_in, removals_in}
+use Rattle.world_model.specs.Traces.{LeaderCommit, Proposal, Removal, Replied, leader_commits_in, proposals_in, removals_in, replies_told}
 use Rattle.world_model.specs.Turn as turns
 
 -- ---- the members and the network
@@ -40,7 +40,7 @@ node_of shape me m = node_with shape me m.durable (volatile_of m.running)
 
 -- The members, and every message that was ever sent, the first frame first. What is never taken is lost; what is taken again is
 -- repeated. Beside them stands what safety speaks of: how many events there were, and of all of them what leaders proposed, what was
--- removed from logs, and what leaders committed.
+-- removed from logs, what leaders committed, and what clients were told.
 pub record World : Type 0 where
   pub shape : Shape
   pub members : List Member
@@ -49,6 +49,7 @@ pub record World : Type 0 where
   pub book : List Proposal
   pub cuts : List Removal
   pub commits : List LeaderCommit
+  pub replies : List Replied
 
 -- each member runs, and none has ever run before
 abbrev pub newborn : Member
@@ -56,7 +57,7 @@ newborn = record { durable = born; running = Some fresh }
 
 abbrev pub start : Shape → World
 start shape =
-    record { shape = shape; members = replicate (members_of shape) newborn; sent = []; count = 0; book = []; cuts = []; commits = [] }
+    record { shape = shape; members = replicate (members_of shape) newborn; sent = []; count = 0; book = []; cuts = []; commits = []; replies = [] }
 
 -- one more event
 abbrev pub counting : World → World
@@ -108,7 +109,12 @@ tracing w me before t =
 abbrev pub after_turn : Ending
 after_turn w me before t =
     record {
-      world = record (tracing w me before t) { members = slice_set w.members me (running_as t.node); sent = w.sent ++ sent_among t.outputs };
+      world =
+          record (tracing w me before t) {
+            members = slice_set w.members me (running_as t.node);
+            sent = w.sent ++ sent_among t.outputs;
+            replies = w.replies ++ replies_told w.count me t.outputs;
+          };
       verdict = Done;
       member = me;
       outputs = t.outputs;
@@ -141,6 +147,8 @@ delivery_of m = record { member = receiver_byte m; event = turns.Frame m }
 abbrev pub aim_of : World → Inner → Option Aim
 aim_of w (Tick member word) = Some (record { member = member; event = turns.Tick word })
 aim_of w (Take frame) = option_map delivery_of (slice_get w.sent (frame - 1))
+-- the place from which a client asks is its number
+aim_of w (Call member request) = Some (record { member = member; event = turns.Call request.client request })
 
 -- a turn of that member, where it runs
 abbrev pub turn_as : Ending → World → Aim → Durable → Option Volatile → Happened

@@ -3,6 +3,7 @@
 //! anything of this crate: each function states a law of the definitions as its contract.
 #![tactic(auto)]
 
+mod call;
 mod command;
 mod limits;
 mod line;
@@ -13,7 +14,7 @@ ghost use Rattle.std.specs.Prelude.{◌≡◌, ℕ, ◌<◌, ◌^◌, ◌↔◌,
 ghost use Rattle.std.specs.Fmt.{decimal};
 ghost use Rattle.craft_base.specs.Shape.{Shape};
 ghost use Rattle.world_model.specs.Numbers.{number_of};
-ghost use Rattle.world_model.specs.Ranges.{EveryRunInRange, EveryTurnCanBeApplied};
+ghost use Rattle.world_model.specs.Ranges.{EveryReplyHasSpelling, EveryRunInRange, EveryTurnCanBeApplied};
 ghost use Rattle.world_model.specs.Schedule.{line_in, reading};
 ghost use Rattle.world_model.specs.Spelling.{IsAllGood, IsCommand, IsFirstBad, IsLineOf, IsNumber, SpellsCommand, SpellsLine};
 ghost use Rattle.world_model.specs.Turn.{EveryTurnIsRecorded};
@@ -21,6 +22,7 @@ ghost use Rattle.world_model.specs.Words.{plan};
 ghost use Rattle.world_model.specs.declared.command.Command.{Command};
 ghost use Rattle.world_model.specs.declared.line.Line.{Line};
 
+pub use call::{Called, ClientReply};
 pub use command::Command;
 pub use limits::{LONGEST_LINE, MOST_LINES};
 pub use line::{Inner, Line};
@@ -79,6 +81,12 @@ pub fn every_turn_is_recorded()
 /// or commits what is in the log and isn't committed, or gives a part the value of its length.
 pub fn every_turn_can_be_applied()
     ensures { EveryTurnCanBeApplied }
+{}
+
+/// Each reply of a turn can be written as a frame of the cluster, where the node's numbers are in range and a request that comes
+/// has a spelling: a version is an index of the log, a value as long as one can be, and the hint a member.
+pub fn every_reply_has_a_spelling()
+    ensures { EveryReplyHasSpelling }
 {}
 
 /// Each message that is sent in a run of a cluster can be written as a frame of that cluster's, whatever the events: no term

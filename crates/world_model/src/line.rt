@@ -1,18 +1,20 @@
 //! What a line of a schedule asks for.
 
-use craft_base::MemberId;
+use craft_base::{MemberId, Request};
 
 /// What can happen to a member.
-#[derive(Clone, Copy, Debug, PartialEq, Eq)]
+#[derive(Debug, Drop)]
 pub enum Inner {
     /// Time passes at a member. The word chooses how long it waits.
     Tick { member: MemberId, word: u64 },
     /// A frame is delivered to its receiver. Frames are numbered from 1, in the order in which they were sent.
     Take { frame: u64 },
+    /// A client asks a member. Its place is its number.
+    Call { member: MemberId, request: Request },
 }
 
 /// What a line of a schedule asks for.
-#[derive(Clone, Copy, Debug, PartialEq, Eq)]
+#[derive(Debug, Drop)]
 pub enum Line {
     /// It happens.
     Do(Inner),

@@ -11,8 +11,9 @@ use Rattle.entry_frames.specs.Records.{Record, Commit}
 use Rattle.entry_frames.specs.declared.role.Role.{Role}
 use Rattle.entry_frames.specs.declared.role.Role.TheVariants.{Follower, Candidate, Preparing, Leader}
 use Rattle.world_model.specs.Nodes.{Node}
-use Rattle.world_model.specs.Rules.Acts.{Act, followed_by, message_of, recording, stays}
+use Rattle.world_model.specs.Rules.Acts.{Act, followed_by, message_of, stays}
 use Rattle.world_model.specs.Rules.Append.{act_of_append_as, act_of_entries, act_of_following, act_of_heard_append, act_of_match, act_of_refusal, act_of_suited, act_of_taking, difference, following, has_before, is_clash, taken_records}
+use Rattle.world_model.specs.Rules.Applying.{act_of_applying}
 use Rattle.world_model.specs.Rules.Terms.{refusal}
 use Rattle.world_model.specs.Traces.{Proposal, Removal, all_commits_in, all_proposals_in, proposals_in, removals_in}
 use Rattle.protocol.specs.History as protocol
@@ -104,7 +105,7 @@ module _
         grows_or_stays taken index
         (λ act. IsTraced shape g member n.durable book (followed_by (act_of_entries prev entries n) (λ it. followed_by act (act_of_match leader prev (length entries)))))
         (λ grows.
-        taken_traced (followed_by (act_of_entries prev entries n) (λ it. followed_by (recording (Commit index) (stays taken)) (act_of_match leader prev (length entries))))
+        taken_traced (followed_by (act_of_entries prev entries n) (λ it. followed_by (act_of_applying index taken) (act_of_match leader prev (length entries))))
         (Commit index ∷ []) refl refl follows refl (λ event. refl) (λ more. one_stands more _ tt))
         (taken_traced (followed_by (act_of_entries prev entries n) (λ it. followed_by (stays taken) (act_of_match leader prev (length entries))))
         [] refl refl follows refl (λ event. refl) (λ more. one_stands more _ tt))

@@ -7,7 +7,8 @@ use Rattle.entry_frames.specs.Records.{Commit}
 use Rattle.entry_frames.specs.declared.role.Role.{Role}
 use Rattle.entry_frames.specs.declared.role.Role.TheVariants.{Follower, Candidate, Preparing, Leader}
 use Rattle.world_model.specs.Nodes.{Node, node_hearing}
-use Rattle.world_model.specs.Rules.Acts.{followed_by, recording, stays}
+use Rattle.world_model.specs.Rules.Acts.{followed_by, stays}
+use Rattle.world_model.specs.Rules.Applying.{act_of_applying}
 use Rattle.world_model.specs.Rules.Matched.{act_of_matched_as, act_of_next, act_of_progress, act_of_refused_as, act_of_retry, commit_of_leader, log_heard}
 use Rattle.world_model.specs.Rules.Say.{append_to}
 use Rattle.world_model.specs.Traces.{LeaderCommit, Proposal, has_won_term, proposals_in}
@@ -35,7 +36,7 @@ module _
     (leads : n.volatile.role ≡ Leader) where
   committed_agrees :
       (index event : ℕ) → n.durable.commit < index → (h : protocol.History) → Moves shape.faults g h →
-      NodeAgrees shape h member (recording (Commit index) (stays n)).node →
+      NodeAgrees shape h member (act_of_applying index n).node →
       CommitAgrees h (record { event = event; term = n.durable.term; log = take index n.durable.log })
   committed_agrees index event more h run node =
       let later : Reached shape.faults h = moves_trans shape.faults _ g h reached run in
@@ -79,7 +80,7 @@ module _
       let index = commit_of_leader n in
       grows_or_stays n index (λ act. IsTraced shape g member n.durable book (followed_by act (act_of_next receiver)))
       (λ above h run node event.
-      let now = (recording (Commit index) (stays n)).node in
+      let now = (act_of_applying index n).node in
       let c : LeaderCommit = record { event = event; term = n.durable.term; log = take index n.durable.log } in
       let more = proposals_in event n.volatile.role n.durable (Commit index ∷ []) in
       let log : AllStand (book ++ more) 1 n.durable.log = stand_more book more 1 n.durable.log stand in

@@ -1,6 +1,6 @@
 -- What a member whose log stands in the book sends stands there: a leader's appends carry entries of its log, and no other message
 -- carries any.
-use Rattle.std.proofs.Common.{ℕ, zero, suc, ◌+◌, ◌-◌, ◌&&◌, nat_le, false, List, [], ◌∷◌, drop, arith}
+use Rattle.std.proofs.Common.{ℕ, zero, suc, ◌+◌, ◌-◌, ◌&&◌, nat_le, false, List, [], ◌∷◌, drop, map, arith}
 use Rattle.std.specs.List.{All}
 use Rattle.std.proofs.lemmas.Bool.{cond_both}
 use Rattle.std.proofs.lemmas.List.Elements.{All-cons, All-map, All-nil}
@@ -52,8 +52,12 @@ module _ (book : List Proposal) where
         batch_stands (before + 1) n.shape.need most_entries most_entry_bytes (drop before n.durable.log)
         (stand_at_index book (1 + before) (before + 1) (drop before n.durable.log) (omega arith) (stand_drop book 1 before n.durable.log stand))
 
+    pub some_appends_stand : (receivers : List ℕ) → All (MessageStands book) (map (append_to n) receivers)
+    some_appends_stand receivers =
+        All-map (MessageStands book) (append_to n) receivers (each_is (λ receiver. MessageStands book (append_to n receiver)) append_stands receivers)
+
     pub appends_stand : All (MessageStands book) (appends_to_others n)
-    appends_stand = All-map (MessageStands book) (append_to n) (others n) (each_is (λ receiver. MessageStands book (append_to n receiver)) append_stands (others n))
+    appends_stand = some_appends_stand (others n)
 
     append_with_stands : (receiver : ℕ) (batch : List Entry) → All (MessageStands book) (append_with n receiver batch)
     append_with_stands receiver [] = All-nil (MessageStands book)

@@ -1,5 +1,5 @@
 -- Entries that stand in the book: in one that grew, in parts of a log, and at a place.
-use Rattle.std.proofs.Common.{◌≡◌, ◌≢◌, ℕ, zero, suc, ◌+◌, ◌&&◌, ◌==◌, Bool, true, false, if◌then◌else◌, List, [], ◌∷◌, ◌++◌, length, take, drop, Option, None, Some, slice_get, refl, ap, subst, ◌∙◌, arith}
+use Rattle.std.proofs.Common.{◌≡◌, ℕ, zero, suc, ◌+◌, ◌&&◌, ◌==◌, Bool, true, false, if◌then◌else◌, List, [], ◌∷◌, ◌++◌, length, take, drop, Option, None, Some, slice_get, refl, ap, subst, ◌∙◌, arith}
 use Rattle.std.specs.List.{All}
 use Rattle.std.proofs.lemmas.Bool.{cond_both, and_parts, and_from, eqb-true, eq-eqb}
 use Rattle.std.proofs.lemmas.List.Elements.{All-head, All-tail}
@@ -32,14 +32,20 @@ command_in_more (p ∷ book) more term index command e =
     found_more ((p.term == term) && (p.index == index)) p.command (command_in book term index) (command_in (book ++ more) term index) command
     (command_in_more book more term index command) e
 
--- nothing is found of a term of which nothing was proposed
+-- it has another term or another index
+abbrev pub IsElsewhere : (term index : ℕ) → Proposal → Type 0
+IsElsewhere term index p = p.term ≡ term → p.index ≡ index → ⊥
+
+-- nothing is found where nothing was proposed
 pub command_in_none :
-    (book : List Proposal) (term index : ℕ) → All (λ p. p.term ≢ term) book → command_in book term index ≡ None
+    (book : List Proposal) (term index : ℕ) → All (IsElsewhere term index) book → command_in book term index ≡ None
 command_in_none [] term index none = refl
 command_in_none (p ∷ book) term index none =
     cond_both ((p.term == term) && (p.index == index)) (Some p.command) (command_in book term index) (λ found. found ≡ None)
-    (λ here. absurd (All-head (λ p. p.term ≢ term) p book none (eqb-true p.term term (and_parts (p.term == term) _ here).0)))
-    (λ there. command_in_none book term index (All-tail (λ p. p.term ≢ term) p book none))
+    (λ here.
+    let parts = and_parts (p.term == term) _ here in
+    absurd (All-head (IsElsewhere term index) p book none (eqb-true p.term term parts.0) (eqb-true p.index index parts.1)))
+    (λ there. command_in_none book term index (All-tail (IsElsewhere term index) p book none))
 
 found_new :
     (test : Bool) (command : Command) (rest more : Option Command) (it : Command) → (rest ≡ None → more ≡ Some it) →

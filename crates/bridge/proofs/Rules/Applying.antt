@@ -3,11 +3,10 @@
 use Rattle.std.proofs.Common.{◌≡◌, ℕ, ◌<◌, ◌≤◌, ◌⊎◌, nat_lt, length, sym, ap, subst, ◌∙◌, inl, inr, arith, le_trans}
 use Rattle.std.proofs.lemmas.Bool.{cond_both, ltb-true}
 use Rattle.craft_base.specs.Shape.{Shape}
-use Rattle.entry_frames.specs.Records.{Commit}
 use Rattle.entry_frames.specs.declared.role.Role.TheVariants.{Leader}
 use Rattle.world_model.specs.Nodes.{Node}
-use Rattle.world_model.specs.Rules.Acts.{Act, followed_by, recording, stays}
-use Rattle.world_model.specs.Rules.Applying.{act_of_commit}
+use Rattle.world_model.specs.Rules.Acts.{Act, followed_by, stays}
+use Rattle.world_model.specs.Rules.Applying.{act_of_applying, act_of_commit}
 use Rattle.world_model.specs.Rules.Matched.{commit_of_leader}
 use Rattle.protocol.specs.Growth.{Grows}
 use Rattle.protocol.specs.History as protocol
@@ -31,17 +30,17 @@ use Rattle.bridge.proofs.Rules.Say.{leading_log}
 
 -- the commit index grows to that one, or it is there already
 pub grows_or_stays :
-    (n : Node) (index : ℕ) (P : Act → Type 0) → (n.durable.commit < index → P (recording (Commit index) (stays n))) → P (stays n) →
+    (n : Node) (index : ℕ) (P : Act → Type 0) → (n.durable.commit < index → P (act_of_applying index n)) → P (stays n) →
     P (act_of_commit index n)
 grows_or_stays n index P grown same =
-    cond_both (nat_lt n.durable.commit index) (recording (Commit index) (stays n)) (stays n) P
+    cond_both (nat_lt n.durable.commit index) (act_of_applying index n) (stays n) P
     (λ greater. grown (ltb-true _ _ greater)) (λ less. same)
 
 -- a node that committed up to an index agrees with a history in which its member did, whatever was decided there
 commit_agrees :
     {shape : Shape} {g : protocol.History} {member : ℕ} {n : Node} (a : NodeAgrees shape g member n) (index : ℕ) (decided : ℕ → ℕ) →
     Grows g (record g { commit = put member index g.commit; decided = decided }) →
-    NodeAgrees shape (record g { commit = put member index g.commit; decided = decided }) member (recording (Commit index) (stays n)).node
+    NodeAgrees shape (record g { commit = put member index g.commit; decided = decided }) member (act_of_applying index n).node
 commit_agrees {g = g} {member = member} {n = n} a index decided grows = record {
   of_shape = a.of_shape;
   me = a.me;
@@ -61,16 +60,16 @@ committed_then :
     {shape : Shape} {g h : protocol.History} {member : ℕ} {n : Node} (reached : Reached shape.faults g) (a : NodeAgrees shape g member n)
     (index : ℕ) (rule : Node → Act) →
     (n.durable.commit < index →
-    OwnMoves shape.faults member g h × NodeAgrees shape h member (recording (Commit index) (stays n)).node) →
-    (Reached shape.faults h → NodeAgrees shape h member (recording (Commit index) (stays n)).node →
-    ActBridged shape h member (rule (recording (Commit index) (stays n)).node)) →
+    OwnMoves shape.faults member g h × NodeAgrees shape h member (act_of_applying index n).node) →
+    (Reached shape.faults h → NodeAgrees shape h member (act_of_applying index n).node →
+    ActBridged shape h member (rule (act_of_applying index n).node)) →
     ActBridged shape g member (rule n) → ActBridged shape g member (followed_by (act_of_commit index n) rule)
 committed_then {shape = shape} {g = g} {h = h} {member = member} {n = n} reached a index rule grown next same =
     grows_or_stays n index (λ act. ActBridged shape g member (followed_by act rule))
     (λ more.
     let moves = (grown more).0 in
     let node = (grown more).1 in
-    moved_then reached (recording (Commit index) (stays n)) rule moves node (sends_none h) (λ later. next later node))
+    moved_then reached (act_of_applying index n) rule moves node (sends_none h) (λ later. next later node))
     (moved_then reached (stays n) rule (own_none g) a (sends_none g) (λ later. same))
 
 -- ---- at a follower
@@ -87,7 +86,7 @@ module _
         subst (λ t. (index ≤ g.base t) ⊎ (index ≤ g.decided t)) (sym a.term) known,
       )
 
-  learnt_agrees : NodeAgrees shape (after g (Learn member index)) member (recording (Commit index) (stays n)).node
+  learnt_agrees : NodeAgrees shape (after g (Learn member index)) member (act_of_applying index n).node
   learnt_agrees = commit_agrees a index g.decided (reached_grows reached learns.run)
 
 -- a follower commits up to an index that the leader had, as far as the log is the leader's, and then a rule follows
@@ -96,8 +95,8 @@ pub learn_then :
     (index : ℕ) (rule : Node → Act) → Agree (log_seen n.durable.log) (g.led n.durable.term) index →
     (index ≤ g.base n.durable.term) ⊎ (index ≤ g.decided n.durable.term) →
     (Reached shape.faults (after g (Learn member index)) →
-    NodeAgrees shape (after g (Learn member index)) member (recording (Commit index) (stays n)).node →
-    ActBridged shape (after g (Learn member index)) member (rule (recording (Commit index) (stays n)).node)) →
+    NodeAgrees shape (after g (Learn member index)) member (act_of_applying index n).node →
+    ActBridged shape (after g (Learn member index)) member (rule (act_of_applying index n).node)) →
     ActBridged shape g member (rule n) → ActBridged shape g member (followed_by (act_of_commit index n) rule)
 learn_then reached a index rule agrees known next same =
     committed_then reached a index rule (λ more. (learns reached a index more agrees known, learnt_agrees reached a index more agrees known)) next same
@@ -165,15 +164,15 @@ module _
     says_and_decides : OwnMoves shape.faults member g (decided index)
     says_and_decides = own_then own_said decides
 
-    decided_agrees : NodeAgrees shape (decided index) member (recording (Commit index) (stays n)).node
+    decided_agrees : NodeAgrees shape (decided index) member (act_of_applying index n).node
     decided_agrees = commit_agrees ready_agrees index (put (g.term member) index g.decided) (reached_grows ready_reached decides.run)
 
 -- a leader commits what it counted enough members to hold, and then a rule follows
 pub decide_then :
     {shape : Shape} {g : protocol.History} {member : ℕ} {n : Node} (reached : Reached shape.faults g) (a : NodeAgrees shape g member n) →
     n.volatile.role ≡ Leader → (rule : Node → Act) →
-    ((h : protocol.History) → Reached shape.faults h → NodeAgrees shape h member (recording (Commit (commit_of_leader n)) (stays n)).node →
-    ActBridged shape h member (rule (recording (Commit (commit_of_leader n)) (stays n)).node)) →
+    ((h : protocol.History) → Reached shape.faults h → NodeAgrees shape h member (act_of_applying (commit_of_leader n) n).node →
+    ActBridged shape h member (rule (act_of_applying (commit_of_leader n) n).node)) →
     ActBridged shape g member (rule n) → ActBridged shape g member (followed_by (act_of_commit (commit_of_leader n) n) rule)
 decide_then {shape = shape} {g = g} {member = member} {n = n} reached a leads rule next same =
     let index = commit_of_leader n in

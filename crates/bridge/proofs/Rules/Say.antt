@@ -1,8 +1,8 @@
 -- Say: what a leader sends is a stretch of its log, which is the one that history has for its term.
-use Rattle.std.proofs.Common.{◌≡◌, ◌≢◌, ℕ, zero, suc, ◌+◌, ◌-◌, ◌<◌, ◌≤◌, ◌⊎◌, List, [], ◌∷◌, length, take, drop, refl, sym, ap, subst, ◌∙◌, arith, length-drop, ◌&&◌, ◌==◌, true, not, nat_le}
+use Rattle.std.proofs.Common.{◌≡◌, ◌≢◌, ℕ, zero, suc, ◌+◌, ◌-◌, ◌<◌, ◌≤◌, ◌⊎◌, List, [], ◌∷◌, length, take, drop, map, filter, refl, sym, ap, subst, ◌∙◌, arith, length-drop, ◌&&◌, ◌==◌, Bool, true, not, nat_le}
 use Rattle.std.specs.List.{All}
 use Rattle.std.proofs.lemmas.Bool.{cond_both, not-true, eqb-false}
-use Rattle.std.proofs.lemmas.List.Elements.{All-map, All-weaker, filter_passes}
+use Rattle.std.proofs.lemmas.List.Elements.{All-filter, All-map, All-weaker, filter_passes}
 use Rattle.craft_base.specs.Knowledge.{members}
 use Rattle.craft_base.specs.Shape.{Shape}
 use Rattle.craft_base.specs.declared.command.Entry.{Entry}
@@ -105,13 +105,22 @@ module _
             (batch_first n.shape.need most_entries most_entry_bytes (drop (start_of n receiver - 1) n.durable.log));
       }
 
-  pub appends_agree : All (MessageAgrees g) (appends_to_others n)
-  appends_agree =
+  -- to each other member
+  each_agrees : All (λ receiver. MessageAgrees g (append_to n receiver)) (others n)
+  each_agrees =
       let each : (receiver : ℕ) → not (receiver == n.me) ≡ true → MessageAgrees g (append_to n receiver) =
       λ receiver passes. append_to_agrees receiver (λ e. eqb-false receiver n.me (not-true _ passes) (sym e)) in
-      All-map (MessageAgrees g) (append_to n) (others n)
-      (All-weaker (λ receiver. not (receiver == n.me) ≡ true) (λ receiver. MessageAgrees g (append_to n receiver)) each (others n)
-      (filter_passes (λ receiver. not (receiver == n.me)) (members n.shape)))
+      All-weaker (λ receiver. not (receiver == n.me) ≡ true) (λ receiver. MessageAgrees g (append_to n receiver)) each (others n)
+      (filter_passes (λ receiver. not (receiver == n.me)) (members n.shape))
+
+  pub appends_agree : All (MessageAgrees g) (appends_to_others n)
+  appends_agree = All-map (MessageAgrees g) (append_to n) (others n) each_agrees
+
+  -- and to those of them that pass a test
+  pub some_appends_agree : (test : ℕ → Bool) → All (MessageAgrees g) (map (append_to n) (filter test (others n)))
+  some_appends_agree test =
+      All-map (MessageAgrees g) (append_to n) (filter test (others n))
+      (All-filter test (λ receiver. MessageAgrees g (append_to n receiver)) (others n) each_agrees)
 
   append_with_agrees : (receiver : ℕ) (batch : List Entry) → n.me ≢ receiver → All (MessageAgrees g) (append_with n receiver batch)
   append_with_agrees receiver [] apart = sends_none g

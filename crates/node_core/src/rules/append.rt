@@ -19,7 +19,8 @@ use full_append::{Plan, take_append};
 use peer_frames::{MessageView, Peer, Role};
 
 impl Act {
-    ghost use Rattle.node_core.specs.Acting.{Acts, IsRangedMember, MayRecord, Recorded};
+    ghost use Rattle.node_core.specs.Acting.{Acts, IsNode, IsRangedMember, MayRecord, Recorded};
+    ghost use Rattle.world_model.specs.Nodes.{Node};
     ghost use Rattle.world_model.specs.Rules.Acts.{message_of, sending, stays};
 
     /// Takes the entries of a leader of this term. A member that has won takes none.
@@ -54,6 +55,7 @@ impl Act {
         requires records { HasRecordsFor self.member append.now.frame plan }
         requires few { length (entries_of (body_of append.now.frame)) ≤ most_entries }
         requires may { MayTake self.member append.now.frame }
+        requires stands { (n : Node) × IsNode self.member n }
         ensures { IfOk result (Acts (heard_act append.now.frame) self) }
     {
         match plan {

@@ -52,6 +52,7 @@ impl Act {
             group: self.group,
             cuts: self.cuts,
             wholes: self.wholes,
+            replies: self.replies,
             sends: self.sends,
         })
     }
@@ -62,6 +63,7 @@ impl Act {
         requires leads { self.member.role ≡ Leader }
         ensures { IfOk result (Acts (rule.act_of_progress member) self) }
     {
+        self.member.shape.law();
         let commit = self.member.commit_of_leader();
         let act = self.commit_to(commit)?;
         act.append_if_any(member)
@@ -108,6 +110,8 @@ impl Member {
             quiet: self.quiet,
             hint: self.hint,
             heard: self.heard.matched(sender, prev, count, mask, last)?,
+            service: self.service,
+            calls: self.calls,
         })
     }
 

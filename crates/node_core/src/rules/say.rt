@@ -112,7 +112,7 @@ impl Member {
     }
 
     /// The member of that number, where it is another than this one.
-    fn other(&self, number: u8) -> Option<MemberId>
+    pub(crate) fn other(&self, number: u8) -> Option<MemberId>
         requires { number < members_of self.now.shape }
         ensures { result ≡ (if number == self.now.me then None else Some number) }
     {
@@ -134,7 +134,7 @@ impl Member {
     }
 
     /// What a member lacks, as far as it is known and there is room for it.
-    fn append_to(&self, receiver: MemberId) -> Result<Message, OutOfMemory>
+    pub(crate) fn append_to(&self, receiver: MemberId) -> Result<Message, OutOfMemory>
         requires { MaySay self.now }
         ensures { IfOk result (λ message. (n : Node) → IsNode self.now n → message ≡ rule.append_to n receiver) }
     {

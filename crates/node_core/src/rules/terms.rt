@@ -61,12 +61,13 @@ impl Act {
 impl Member {
     ghost use Rattle.node_core.specs.Acting.{Becomes};
 
-    /// A follower in a new term: nobody is known to lead it, and nothing was heard.
+    /// A follower in a new term: nobody is known to lead it, nothing was heard, and nobody is answered any more who asked before.
     fn enter_as_follower(&mut self) -> Result<(), OutOfMemory>
-        ensures { OnOk result (Becomes (λ n. record n { volatile = record n.volatile { role = Follower; hint = None; heard = []; first = 0 } }) self.old self.new) }
+        ensures { OnOk result (Becomes (λ n. record n { volatile = record n.volatile { role = Follower; hint = None; heard = []; first = 0; calls = [] } }) self.old self.new) }
     {
         self.role = Role::Follower;
         self.hint = None;
+        self.calls.clear();
         self.forget()
     }
 }

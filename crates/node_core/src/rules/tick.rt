@@ -79,7 +79,7 @@ impl Member {
 
     /// A candidate in a new term: nobody is known to lead it, and nothing was heard.
     fn enter_as_candidate(&mut self) -> Result<(), OutOfMemory>
-        ensures { OnOk result (Becomes (λ n. record n { volatile = record { role = Candidate; quiet = 0; hint = None; heard = []; first = 0 } }) self.old self.new) }
+        ensures { OnOk result (Becomes (λ n. record n { volatile = record n.volatile { role = Candidate; quiet = 0; hint = None; heard = []; first = 0 } }) self.old self.new) }
     {
         self.role = Role::Candidate;
         self.quiet = 0;

@@ -18,53 +18,76 @@ use Rattle.entry_frames.specs.declared.peer.Peer.{Peer}
 use Rattle.entry_frames.proofs.Durable.{can_apply-append}
 use Rattle.entry_frames.proofs.Stored.{records_kept}
 use Rattle.world_model.specs.Nodes.{Node, Volatile}
-use Rattle.world_model.specs.Ranges.{IsMember, NodeInRange, HasSpelling, KnowsInRange}
-use Rattle.world_model.specs.Rules.Acts.{Act, IsRecorded, followed_by, keeping, message_of, messages_to_others, others, recording_all, sending, stays}
+use Rattle.world_model.specs.Ranges.{ClientsInRange, IsMember, NodeInRange, HasSpelling, KnowsInRange, ReplyHasSpelling}
+use Rattle.world_model.specs.Rules.Acts.{Act, IsRecorded, answering, followed_by, keeping, message_of, messages_to_others, others, recording_all, sending, stays}
+use Rattle.world_model.specs.declared.call.ClientReply.{ClientReply}
 use Rattle.world_model.proofs.Frames.{message_fits}
 use Rattle.world_model.proofs.Ranges.Records.{spelled-append}
 
--- a rule leaves its node in range; its records can be applied to the node before it and have spellings, and so has what it sends
+-- a rule leaves its node in range; its records can be applied to the node before it and have spellings, and so have its replies and what it sends
 pub record ActInRange (shape : Shape) (member : ℕ) (n : Node) (act : Act) : Type 0 where
   pub node : NodeInRange shape member act.node
   pub applies : CanApplyAll shape n.durable act.records
   pub written : HaveSpellings shape.need act.records
+  pub replies : All (ReplyHasSpelling shape member) act.replies
   pub sends : All (HasSpelling shape) act.sends
 
 module _ {shape : Shape} {member : ℕ} {n : Node} (a : NodeInRange shape member n) where
-  -- what a crash loses has no range but in what is known
-  pub in_volatile : (v : Volatile) → KnowsInRange v.role (length n.durable.log) v.first v.heard → NodeInRange shape member (record n { volatile = v })
-  in_volatile v knows = record { of_shape = a.of_shape; me = a.me; is_member = a.is_member; durable = a.durable; knows = knows }
+  -- what a crash loses has no range but in what is known and in what clients may be told
+  pub in_volatile :
+      (v : Volatile) → ClientsInRange shape v.hint v.calls → KnowsInRange v.role (length n.durable.log) v.first v.heard →
+      NodeInRange shape member (record n { volatile = v })
+  in_volatile v clients knows = record { of_shape = a.of_shape; me = a.me; is_member = a.is_member; durable = a.durable; clients = clients; knows = knows }
 
   pub stays_in_range : ActInRange shape member n (stays n)
-  stays_in_range = record { node = a; applies = tt; written = tt; sends = All-nil (HasSpelling shape) }
+  stays_in_range = record { node = a; applies = tt; written = tt; replies = All-nil (ReplyHasSpelling shape member); sends = All-nil (HasSpelling shape) }
 
   -- what records leave, with that as what a crash loses
   pub enters_in_range :
-      (records : List Record) (v : Volatile) → CanApplyAll shape n.durable records → HaveSpellings shape.need records →
+      (records : List Record) (v : Volatile) → CanApplyAll shape n.durable records → HaveSpellings shape.need records → ClientsInRange shape v.hint v.calls →
       KnowsInRange v.role (length (after n.durable records).log) v.first v.heard → ActInRange shape member n (keeping v (recording_all records (stays n)))
-  enters_in_range records v applies written knows = record {
+  enters_in_range records v applies written clients knows = record {
     node = record {
       of_shape = a.of_shape;
       me = a.me;
       is_member = a.is_member;
       durable = records_kept shape n.durable records a.durable applies written;
+      clients = clients;
       knows = knows;
     };
     applies = applies;
     written = written;
+    replies = All-nil (ReplyHasSpelling shape member);
     sends = All-nil (HasSpelling shape);
   }
 
   pub records_in_range :
       (records : List Record) → CanApplyAll shape n.durable records → HaveSpellings shape.need records →
       KnowsInRange n.volatile.role (length (after n.durable records).log) n.volatile.first n.volatile.heard → ActInRange shape member n (recording_all records (stays n))
-  records_in_range records applies written knows = enters_in_range records n.volatile applies written knows
+  records_in_range records applies written knows = enters_in_range records n.volatile applies written a.clients knows
 
 module _ {shape : Shape} {member : ℕ} {n : Node} where
   pub keeping_in_range :
-      (v : Volatile) (act : Act) → KnowsInRange v.role (length act.node.durable.log) v.first v.heard → ActInRange shape member n act →
-      ActInRange shape member n (keeping v act)
-  keeping_in_range v act knows a = record { node = in_volatile a.node v knows; applies = a.applies; written = a.written; sends = a.sends }
+      (v : Volatile) (act : Act) → ClientsInRange shape v.hint v.calls → KnowsInRange v.role (length act.node.durable.log) v.first v.heard →
+      ActInRange shape member n act → ActInRange shape member n (keeping v act)
+  keeping_in_range v act clients knows a = record {
+    node = in_volatile a.node v clients knows;
+    applies = a.applies;
+    written = a.written;
+    replies = a.replies;
+    sends = a.sends;
+  }
+
+  pub answering_in_range :
+      (replies : List ClientReply) (act : Act) → All (ReplyHasSpelling shape member) replies → ActInRange shape member n act →
+      ActInRange shape member n (answering replies act)
+  answering_in_range replies act fit a = record {
+    node = a.node;
+    applies = a.applies;
+    written = a.written;
+    replies = All-append (ReplyHasSpelling shape member) act.replies replies a.replies fit;
+    sends = a.sends;
+  }
 
   pub sending_in_range :
       (sends : List Message) (act : Act) → All (HasSpelling shape) sends → ActInRange shape member n act → ActInRange shape member n (sending sends act)
@@ -72,6 +95,7 @@ module _ {shape : Shape} {member : ℕ} {n : Node} where
     node = a.node;
     applies = a.applies;
     written = a.written;
+    replies = a.replies;
     sends = All-append (HasSpelling shape) act.sends sends a.sends fit;
   }
 
@@ -84,12 +108,13 @@ module _ {shape : Shape} {member : ℕ} {n : Node} where
         can_apply-append shape n.durable act.records (rule act.node).records first.applies
         (subst (λ d. CanApplyAll shape d (rule act.node).records) (sym is) next.applies);
     written = spelled-append shape.need act.records (rule act.node).records first.written next.written;
+    replies = All-append (ReplyHasSpelling shape member) act.replies (rule act.node).replies first.replies next.replies;
     sends = All-append (HasSpelling shape) act.sends (rule act.node).sends first.sends next.sends;
   }
 
   -- what a crash loses doesn't tell what can be recorded
   pub before_in_range : (v : Volatile) (act : Act) → ActInRange shape member (record n { volatile = v }) act → ActInRange shape member n act
-  before_in_range v act a = record { node = a.node; applies = a.applies; written = a.written; sends = a.sends }
+  before_in_range v act a = record { node = a.node; applies = a.applies; written = a.written; replies = a.replies; sends = a.sends }
 
 members_are : (shape : Shape) → All (IsMember shape) (members shape)
 members_are shape =
@@ -116,7 +141,7 @@ module _ {shape : Shape} (is : IsShape shape) {member : ℕ} {n : Node} (a : Nod
   one_message_fits body receiver is_member apart fits =
       All-cons (HasSpelling shape) (message_of n body receiver) [] (message_of_fits body receiver is_member apart fits) (All-nil (HasSpelling shape))
 
-  others_are : All (λ receiver. IsMember shape receiver × (receiver ≢ member)) (others n)
+  pub others_are : All (λ receiver. IsMember shape receiver × (receiver ≢ member)) (others n)
   others_are =
       let of_shape : All (IsMember shape) (members n.shape) = rw a.of_shape (members_are shape) in
       let members' : All (IsMember shape) (others n) = All-filter (λ member. not (member == n.me)) (IsMember shape) (members n.shape) of_shape in

@@ -119,7 +119,7 @@ module _
           let first : ActInRange shape member n (act_of_entries prev es n) = entries_in_range clear in
           let taken : Node = (act_of_entries prev es n).node in
           let index : ℕ = min commit (prev + length es) in
-          let second : ActInRange shape member taken (act_of_commit index taken) = commit_in_range first.node index (omega (arith, took.reaches)) in
+          let second : ActInRange shape member taken (act_of_commit index taken) = commit_in_range is first.node index (omega (arith, took.reaches)) in
           let term_now : (act_of_commit index taken).node.durable.term ≡ taken.durable.term =
           commit_keeps taken index (λ act. act.node.durable.term ≡ taken.durable.term) refl refl in
           let third : ActInRange shape member (act_of_commit index taken).node (act_of_match leader prev (length es) (act_of_commit index taken).node) =
@@ -146,7 +146,7 @@ module _
     following_in_range none =
         let now : Node = record n { volatile = following leader n } in
         before_in_range (following leader n) (act_of_heard_append leader prev prev_term commit es now)
-        (heard_in_range {n = now} (in_volatile a (following leader n) none) begun refl said)
+        (heard_in_range {n = now} (in_volatile a (following leader n) (is_member, a.clients.1) none) begun refl said)
 
     append_as_in_range : (role : Role) → n.volatile.role ≡ role → ActInRange shape member n (act_of_append_as role n leader prev prev_term commit es)
     append_as_in_range Follower e = following_in_range (knows_as a Follower e)

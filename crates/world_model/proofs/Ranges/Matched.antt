@@ -47,7 +47,7 @@ module _ {shape : Shape} (is : IsShape shape) {member : ℕ} {n : Node} (a : Nod
 module _ {shape : Shape} (is : IsShape shape) {member : ℕ} {n : Node} (a : NodeInRange shape member n) (leads : n.volatile.role ≡ Leader) where
   progress_in_range : (receiver : ℕ) → IsMember shape receiver → receiver ≢ member → ActInRange shape member n (act_of_progress receiver n)
   progress_in_range receiver is_member apart =
-      let first : ActInRange shape member n (act_of_commit (commit_of_leader n) n) = commit_in_range a (commit_of_leader n) (commit_within is a leads) in
+      let first : ActInRange shape member n (act_of_commit (commit_of_leader n) n) = commit_in_range is a (commit_of_leader n) (commit_within is a leads) in
       let same : (act_of_commit (commit_of_leader n) n).node.volatile.role ≡ n.volatile.role =
       commit_keeps n (commit_of_leader n) (λ act. act.node.volatile.role ≡ n.volatile.role) refl refl in
       followed_in_range (act_of_commit (commit_of_leader n) n) (act_of_next receiver) (commit_recorded (commit_of_leader n) n) first
@@ -61,7 +61,7 @@ module _
 
   hearing_in_range : (told : Told) → ToldInRange (length n.durable.log) (length n.durable.log) told → n.volatile.role ≡ Leader → NodeInRange shape member (hearing told)
   hearing_in_range told ranged leads =
-      in_volatile a (hearing told).volatile
+      in_volatile a (hearing told).volatile a.clients
       (subst (λ (role : Role). KnowsInRange role (length n.durable.log) n.volatile.first (log_heard n sender told ∷ n.volatile.heard)) (sym leads)
       (leader_hears (length n.durable.log) n.volatile.first (log_heard n sender told) n.volatile.heard ranged (knows_as a Leader leads)))
 

@@ -1,5 +1,5 @@
 -- Prepare: a new leader's empty entry has a place and a spelling, and what it sends of its log has one.
-use Rattle.std.proofs.Common.{◌≡◌, ℕ, ◌+◌, ◌≤◌, nat_lt, [], ◌∷◌, ◌++◌, length, refl, arith, length-append}
+use Rattle.std.proofs.Common.{◌≡◌, ℕ, ◌+◌, ◌≤◌, nat_lt, [], ◌∷◌, ◌++◌, length, refl, sym, subst, arith, length-append}
 use Rattle.std.specs.List.{All}
 use Rattle.std.proofs.lemmas.Bool.{cond_both, ltb-true, ltb-false}
 use Rattle.craft_base.specs.Shape.{Shape, IsShape}
@@ -10,7 +10,7 @@ use Rattle.entry_frames.specs.Limits.{greatest, last_place}
 use Rattle.entry_frames.specs.Records.{Add}
 use Rattle.entry_frames.proofs.Stored.{term_most}
 use Rattle.world_model.specs.Nodes.{Node}
-use Rattle.world_model.specs.Ranges.{IsOfNoLog, NodeInRange}
+use Rattle.world_model.specs.Ranges.{IsMember, IsOfNoLog, NodeInRange}
 use Rattle.world_model.specs.Rules.Acts.{keeping, recording, stays}
 use Rattle.world_model.specs.Rules.Prepare.{act_of_beginning, act_of_leading, leading, noop}
 use Rattle.world_model.specs.Rules.Say.{appends_to_others}
@@ -36,6 +36,9 @@ noop_fits k term least most = (
 module _
     {shape : Shape} (is : IsShape shape) {member : ℕ} {n : Node} (a : NodeInRange shape member n) (begun : 1 ≤ n.durable.term)
     (none : All IsOfNoLog n.volatile.heard) where
+  me_is_member : IsMember shape n.me
+  me_is_member = subst (IsMember shape) (sym a.me) a.is_member
+
   beginning_in_range : ActInRange shape member n (act_of_beginning n)
   beginning_in_range =
       let longer : length (n.durable.log ++ noop n.durable.term ∷ []) ≡ length n.durable.log + 1 = length-append n.durable.log (noop n.durable.term ∷ []) in
@@ -49,10 +52,10 @@ module _
         no_later = omega arith;
       } in
       enters_in_range a (Add (noop n.durable.term) ∷ []) (leading n) (next, tt)
-      (add_fits shape.need (noop n.durable.term) (noop_fits shape.need n.durable.term begun most), tt)
+      (add_fits shape.need (noop n.durable.term) (noop_fits shape.need n.durable.term begun most), tt) (me_is_member, a.clients.1)
       (omega arith, omega (arith, longer), any_logs (length (n.durable.log ++ noop n.durable.term ∷ [])) n.volatile.heard none, omega (arith, longer)))
       (λ full.
-      keeping_in_range (leading n) (stays n)
+      keeping_in_range (leading n) (stays n) (me_is_member, a.clients.1)
       (omega arith, omega arith, any_logs (length n.durable.log) n.volatile.heard none, omega (arith, ltb-false (length n.durable.log) last_place full)) (stays_in_range a))
 
   pub leading_in_range : ActInRange shape member n (act_of_leading n)

@@ -30,7 +30,8 @@ open_within commit log =
     subst (λ index. (commit < index) × (index ≤ length log)) (sym (get_or-range_with_len (commit + 1) (length log - commit) i 0 within))
     (omega arith, omega (arith, within))
 
-found_of : (P : ℕ → Type 0) (p : ℕ → Bool) (xs : List ℕ) (x : ℕ) → All P xs → find p xs ≡ Some x → P x
+-- what is found has what all have
+pub found_of : {A : Type 0} (P : A → Type 0) (p : A → Bool) (xs : List A) (x : A) → All P xs → find p xs ≡ Some x → P x
 found_of P p xs x all e =
     let here : slice_get xs (position_or_len p xs) ≡ Some x = sym (find_at p xs) ∙ e in
     subst P (get_or_from_slice_get xs (position_or_len p xs) x x here) (all (position_or_len p xs) x (slice_get_within xs (position_or_len p xs) x here))

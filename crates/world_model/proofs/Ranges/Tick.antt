@@ -24,9 +24,10 @@ module _ {shape : Shape} (is : IsShape shape) {member : ℕ} {n : Node} (a : Nod
   candidacy_in_range : (word : ℕ) → is_due n.volatile.quiet word n.durable.term ≡ true → ActInRange shape member n (act_of_candidacy n)
   candidacy_in_range word due =
       let left : n.durable.term < greatest = ltb-true n.durable.term greatest (and_parts (nat_le (3 + word % 8) n.volatile.quiet) (nat_lt n.durable.term greatest) due).1 in
-      enters_in_range a (Term (n.durable.term + 1) (Some n.me) ∷ []) (record { role = Candidate; quiet = 0; hint = None; heard = []; first = 0 })
+      enters_in_range a (Term (n.durable.term + 1) (Some n.me) ∷ []) (record n.volatile { role = Candidate; quiet = 0; hint = None; heard = []; first = 0 })
       (inl (record { least = omega arith; most = omega (arith, left); later = omega arith }), tt)
-      (term_fits shape is (n.durable.term + 1) (Some n.me) (omega (arith, left)) (subst (IsMember shape) (sym a.me) a.is_member), tt) (All-nil IsOfNoLog)
+      (term_fits shape is (n.durable.term + 1) (Some n.me) (omega (arith, left)) (subst (IsMember shape) (sym a.me) a.is_member), tt) (tt, a.clients.1)
+      (All-nil IsOfNoLog)
 
   election_in_range : (word : ℕ) → is_due n.volatile.quiet word n.durable.term ≡ true → ActInRange shape member n (act_of_election n)
   election_in_range word due =
@@ -43,11 +44,11 @@ module _ {shape : Shape} (is : IsShape shape) {member : ℕ} {n : Node} (word : 
   waited_in_range : ActInRange shape member n (act_of_waiting word (waiting_node n))
   waited_in_range =
       let v = (waiting_node n).volatile in
-      before_in_range v (act_of_waiting word (waiting_node n)) (waiting_in_range is (in_volatile a v a.knows) word)
+      before_in_range v (act_of_waiting word (waiting_node n)) (waiting_in_range is (in_volatile a v a.clients a.knows) word)
 
   beat_in_range : NodeInRange shape member (node_hearing Beat n)
   beat_in_range =
-      in_volatile a (node_hearing Beat n).volatile (hears n.volatile.role (length n.durable.log) n.volatile.first Beat n.volatile.heard tt a.knows)
+      in_volatile a (node_hearing Beat n).volatile a.clients (hears n.volatile.role (length n.durable.log) n.volatile.first Beat n.volatile.heard tt a.knows)
 
   tick_as_in_range : (role : Role) → n.volatile.role ≡ role → ActInRange shape member n (act_of_tick_as role word n)
   tick_as_in_range Follower e = waited_in_range

@@ -21,6 +21,7 @@ use Rattle.world_model.proofs.Recorded.{term_recorded}
 use Rattle.world_model.proofs.Turns.{caught_up}
 use Rattle.world_model.proofs.Ranges.Acts.{ActInRange, followed_in_range, stays_in_range}
 use Rattle.world_model.proofs.Ranges.Append.{append_in_range, stretch_of}
+use Rattle.world_model.proofs.Ranges.Call.{call_in_range}
 use Rattle.world_model.proofs.Ranges.Matched.{matched_in_range, refused_in_range}
 use Rattle.world_model.proofs.Ranges.Terms.{lower_term_in_range, term_in_range}
 use Rattle.world_model.proofs.Ranges.Tick.{tick_in_range}
@@ -66,4 +67,4 @@ act_in_range is (Tick word) told a = tick_in_range is word a
 act_in_range {shape = shape} is {n = n} (Frame m) told a =
     subst (λ member. ActInRange shape member n (act_of_message m n)) told.1
     (message_in_range is m told.0 (subst (λ member. NodeInRange shape member n) (sym told.1) a))
-act_in_range is (Call place request) told a = stays_in_range a
+act_in_range is (Call place request) told a = call_in_range is a place request told

@@ -1,5 +1,5 @@
 -- A part becomes whole by a value of its entry's length.
-use Rattle.std.proofs.Common.{◌≡◌, ℕ, ◌≤◌, ◌==◌, ◌&&◌, true, nat_le, List, length, sym, subst, ◌∙◌}
+use Rattle.std.proofs.Common.{◌≡◌, ℕ, ◌≤◌, ◌==◌, ◌&&◌, true, nat_le, List, length, sym, subst, ◌∙◌, arith}
 use Rattle.std.specs.Prelude.{bytes_eq}
 use Rattle.std.proofs.lemmas.Bool.{and_parts, eqb-true, leb-true}
 use Rattle.craft_base.specs.declared.command.Entry.{Entry}
@@ -35,6 +35,9 @@ long_within vlen is =
     let parts = and_parts (nat_le 1 vlen) (nat_le vlen longest_value) is in
     (leb-true 1 vlen parts.0, leb-true vlen longest_value parts.1)
 
+most_within : (vlen : ℕ) → within 0 longest_value vlen ≡ true → vlen ≤ longest_value
+most_within vlen is = leb-true vlen longest_value (and_parts (nat_le 0 vlen) (nat_le vlen longest_value) is).1
+
 part_long :
     (k term client seq : ℕ) (op : Op) (key : List ℕ) (vlen : ℕ) (bytes : List ℕ) →
     Fits (entry_fields k) (entry_with term client seq op key vlen (forms.Part bytes)) → IsLong vlen
@@ -55,6 +58,25 @@ module _ (k : ℕ) (e : Entry) (bytes : List ℕ) (fits : Fits (entry_fields k) 
   pub part_length : e.form ≡ forms.Part bytes → IsLong e.head.vlen
   part_length is =
       part_long k e.term e.head.client e.head.seq e.head.op e.head.key e.head.vlen bytes (subst (λ (f : Form). Fits (entry_fields k) (e_with f)) is fits)
+
+-- a value that is held whole is as long as a value can be
+op_short :
+    (k term client seq : ℕ) (op : Op) (key : List ℕ) (vlen : ℕ) (bytes : List ℕ) →
+    Fits (entry_fields k) (entry_with term client seq op key vlen (forms.Whole bytes)) → vlen ≤ longest_value
+op_short k term client seq ops.Noop key vlen bytes fits = omega (arith, fits.1.1.1.1.1.1.1.1.1.0)
+op_short k term client seq ops.Del key vlen bytes fits = omega (arith, fits.1.1.1.1.1.1.1.1.1.0)
+op_short k term client seq ops.Get key vlen bytes fits = omega (arith, fits.1.1.1.1.1.1.1.1.1.0)
+op_short k term client seq ops.Put key vlen bytes fits = most_within vlen fits.1.1.1.1.1.1.1.1.1.0.1
+op_short k term client seq (ops.PutIf expected) key vlen bytes fits = most_within vlen fits.1.1.1.1.1.1.1.1.1.0.1
+
+pub value_short : (k : ℕ) (e : Entry) (bytes : List ℕ) → Fits (entry_fields k) e → e.form ≡ forms.Whole bytes → length bytes ≤ longest_value
+value_short k e bytes fits is =
+    let whole : Fits (entry_fields k) (e_with k e bytes fits (forms.Whole bytes)) = subst (λ (f : Form). Fits (entry_fields k) (e_with k e bytes fits f)) is fits in
+    omega (
+      arith,
+      whole_length k e bytes fits is,
+      op_short k e.term e.head.client e.head.seq e.head.op e.head.key e.head.vlen bytes whole,
+    )
 
 pub same_vlen : (one other : Head) → is_same_head one other ≡ true → one.vlen ≡ other.vlen
 same_vlen one other is =

@@ -36,7 +36,7 @@ module _
       sending_in_range (message_of n (peers.VoteReply true) candidate ∷ [])
       (keeping (record n.volatile { quiet = 0 }) (act_of_vote_from n.durable.vote candidate n))
       (one_message_fits is a begun (peers.VoteReply true) candidate is_member apart (reply_fits shape.need n.durable.term true))
-      (keeping_in_range (record n.volatile { quiet = 0 }) (act_of_vote_from n.durable.vote candidate n)
+      (keeping_in_range (record n.volatile { quiet = 0 }) (act_of_vote_from n.durable.vote candidate n) a.clients
       (vote_from_knows n.durable.vote) (vote_from_in_range n.durable.vote refl))
 
   vote_refusal_in_range : ActInRange shape member n (act_of_vote_refusal candidate n)

@@ -27,7 +27,7 @@ module _
 
   heard_in_range : NodeInRange shape member now
   heard_in_range =
-      in_volatile a now.volatile (hears n.volatile.role (length n.durable.log) n.volatile.first (vote_heard n sender granted) n.volatile.heard tt a.knows)
+      in_volatile a now.volatile a.clients (hears n.volatile.role (length n.durable.log) n.volatile.first (vote_heard n sender granted) n.volatile.heard tt a.knows)
 
   vote_reply_as_in_range : (role : Role) → n.volatile.role ≡ role → ActInRange shape member n (act_of_vote_reply_as role n sender granted)
   vote_reply_as_in_range Follower e = stays_in_range a

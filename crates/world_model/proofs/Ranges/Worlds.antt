@@ -1,17 +1,19 @@
 -- Turns, events and runs keep a world in range.
+use Rattle.std.specs.List.{All}
 use Rattle.std.proofs.Common.{◌≡◌, ℕ, ◌-◌, Bool, true, false, List, [], ◌∷◌, Option, None, Some, option_map, slice_get, slice_set, get_or, refl, sym, subst, ◌∙◌, inl, inr, arith}
 use Rattle.std.proofs.lemmas.Bool.{cases_eq}
-use Rattle.std.proofs.lemmas.List.Elements.{All-append, All-nil, All-same}
+use Rattle.std.proofs.lemmas.List.Elements.{All-append, All-head, All-nil, All-same, All-tail}
 use Rattle.std.proofs.lemmas.Option.{slice_get_within, get_or_from_slice_get, same_Some}
 use Rattle.craft_base.specs.Shape.{Shape, IsShape, members_of}
 use Rattle.entry_frames.specs.Durable.{Durable, born}
 use Rattle.entry_frames.specs.Stored.{DurableInRange}
 use Rattle.entry_frames.specs.declared.message.Message.{Message}
 use Rattle.world_model.specs.Nodes.{Node, Volatile, fresh, node_with}
-use Rattle.world_model.specs.Ranges.{EventInRange, IsMember, IsOfNoLog, NodeInRange, HasSpelling, InRange, EveryRunInRange}
+use Rattle.world_model.specs.Ranges.{CallInRange, EventInRange, IsMember, IsOfNoLog, NodeInRange, HasSpelling, InRange, EveryRunInRange}
 use Rattle.world_model.specs.Rules.Acts.{Act}
 use Rattle.world_model.specs.Turn as turns
 use Rattle.world_model.specs.Turn.{turned}
+use Rattle.world_model.specs.Spelling.{IsInnerOf, IsLineOf}
 use Rattle.world_model.specs.World.{Aim, Ending, Member, World, after_stop, after_turn, aim_of, becoming, counting, delivery_of, down_as, down_of, down_with, happening, is_applied, newborn, node_of, run_from, show_as, show_of, start, step, stopped, tracing, turn_as, turn_at, turn_of, up_as, up_of}
 use Rattle.world_model.specs.declared.line.Inner.{Inner}
 use Rattle.world_model.specs.declared.line.Inner.TheVariants as inners
@@ -21,19 +23,22 @@ use Rattle.world_model.specs.declared.verdict.Verdict.{Verdict}
 use Rattle.world_model.specs.declared.verdict.Verdict.TheVariants.{Done, Stop}
 use Rattle.world_model.proofs.Positions.{repeated_at, set_here, set_there}
 use Rattle.world_model.proofs.Turns.{sent_among-turned}
+use Rattle.world_model.proofs.Requests.{request_fits}
 use Rattle.world_model.proofs.Ranges.Acts.{ActInRange}
 use Rattle.world_model.proofs.Ranges.Turns.{act_in_range}
 
 -- what is delivered was sent, and has a spelling; what is aimed at a member can be told to it
-aim_in_range : {shape : Shape} {w : World} → InRange shape w → (inner : Inner) (aim : Aim) → aim_of w inner ≡ Some aim → EventInRange shape aim.member aim.event
-aim_in_range {shape = shape} r (inners.Tick member word) aim e = subst (λ a. EventInRange shape a.member a.event) (same_Some _ _ e) tt
-aim_in_range {shape = shape} {w = w} r (inners.Take frame) aim e = delivered (slice_get w.sent (frame - 1)) refl e where
+aim_in_range : {shape : Shape} {w : World} → InRange shape w → (inner : Inner) → IsInnerOf shape inner → (aim : Aim) → aim_of w inner ≡ Some aim → EventInRange shape aim.member aim.event
+aim_in_range {shape = shape} r (inners.Tick member word) told aim e = subst (λ a. EventInRange shape a.member a.event) (same_Some _ _ e) tt
+aim_in_range {shape = shape} {w = w} r (inners.Take frame) told aim e = delivered (slice_get w.sent (frame - 1)) refl e where
   delivered : (found : Option Message) → slice_get w.sent (frame - 1) ≡ found → option_map delivery_of found ≡ Some aim → EventInRange shape aim.member aim.event
   delivered None here is_aim = cc
   delivered (Some m) here is_aim =
       let at_frame : HasSpelling shape (get_or w.sent (frame - 1) m) = r.sent (frame - 1) m (slice_get_within w.sent (frame - 1) m here) in
       let spelled : HasSpelling shape m = subst (HasSpelling shape) (get_or_from_slice_get w.sent (frame - 1) m m here) at_frame in
       subst (λ a. EventInRange shape a.member a.event) (same_Some _ _ is_aim) (spelled, refl)
+aim_in_range {shape = shape} r (inners.Call member request) told aim e =
+    subst (λ a. EventInRange shape a.member a.event) (same_Some _ _ e) (request_fits request told.2)
 
 module _ {shape : Shape} {w : World} (r : InRange shape w) where
   members_after :
@@ -75,15 +80,15 @@ module _ {shape : Shape} {w : World} (r : InRange shape w) where
     turn_of_in_range aim told None here = r
     turn_of_in_range aim told (Some m) here = turn_as_in_range aim told m.durable m.running here
 
-    turn_at_in_range : (inner : Inner) (aim : Option Aim) → aim_of w inner ≡ aim → InRange shape (turn_at ending w aim).world
-    turn_at_in_range inner None e = r
-    turn_at_in_range inner (Some aim) e = turn_of_in_range aim (aim_in_range r inner aim e) (slice_get w.members aim.member) refl
+    turn_at_in_range : (inner : Inner) → IsInnerOf shape inner → (aim : Option Aim) → aim_of w inner ≡ aim → InRange shape (turn_at ending w aim).world
+    turn_at_in_range inner told None e = r
+    turn_at_in_range inner told (Some aim) e = turn_of_in_range aim (aim_in_range r inner told aim e) (slice_get w.members aim.member) refl
 
   after_turn_in_range : EndsInRange after_turn
   after_turn_in_range aim d volatile here act b =
       let n : Node = node_with w.shape aim.member d volatile in
       let next : NodeInRange shape aim.member (node_with w.shape aim.member act.node.durable act.node.volatile) =
-      record { of_shape = r.of_shape; me = refl; is_member = b.node.is_member; durable = b.node.durable; knows = b.node.knows } in record {
+      record { of_shape = r.of_shape; me = refl; is_member = b.node.is_member; durable = b.node.durable; clients = b.node.clients; knows = b.node.knows } in record {
         of_shape = r.of_shape;
         members = members_after aim.member _ (record { durable = act.node.durable; running = Some act.node.volatile }) here next;
         sent = All-append (HasSpelling shape) w.sent _ r.sent (All-same (HasSpelling shape) _ act.sends (sent_among-turned n act) b.sends);
@@ -91,7 +96,7 @@ module _ {shape : Shape} {w : World} (r : InRange shape w) where
 
   -- a member that is down would start with nothing heard
   down_next : (me : ℕ) (d : Durable) → IsMember shape me → DurableInRange shape d → NodeInRange shape me (node_of w.shape me (down_with d))
-  down_next me d is_member keeps = record { of_shape = r.of_shape; me = refl; is_member = is_member; durable = keeps; knows = All-nil IsOfNoLog }
+  down_next me d is_member keeps = record { of_shape = r.of_shape; me = refl; is_member = is_member; durable = keeps; clients = (tt, All-nil CallInRange); knows = All-nil IsOfNoLog }
 
   down_as_in_range :
       (me : ℕ) (d : Durable) (running : Option Volatile) → slice_get w.members me ≡ Some (record { durable = d; running = running }) →
@@ -141,16 +146,16 @@ module _ {shape : Shape} {w : World} (r : InRange shape w) where
       let a = r.members aim.member (record { durable = d; running = Some volatile }) here in
       becoming_in_range r Stop aim.member _ (down_with d) here (down_next r aim.member d a.is_member a.durable)
 
-happening_in_range : {shape : Shape} → IsShape shape → {w : World} → InRange shape w → (line : Line) → InRange shape (happening w line).world
-happening_in_range is {w = w} r (lines.Do inner) = turn_at_in_range r is after_turn (after_turn_in_range r) inner (aim_of w inner) refl
-happening_in_range is {w = w} r (lines.Down me) = down_in_range r me (slice_get w.members me) refl
-happening_in_range is {w = w} r (lines.Up me) = up_in_range r me (slice_get w.members me) refl
-happening_in_range is {w = w} r (lines.Show me) = show_in_range r me (slice_get w.members me)
-happening_in_range is {w = w} r (lines.Stop call keep inner) =
-    turn_at_in_range r is (after_stop call keep) (stopped_in_range r (is_applied call keep)) inner (aim_of w inner) refl
+happening_in_range : {shape : Shape} → IsShape shape → {w : World} → InRange shape w → (line : Line) → IsLineOf shape line → InRange shape (happening w line).world
+happening_in_range is {w = w} r (lines.Do inner) told = turn_at_in_range r is after_turn (after_turn_in_range r) inner told (aim_of w inner) refl
+happening_in_range is {w = w} r (lines.Down me) told = down_in_range r me (slice_get w.members me) refl
+happening_in_range is {w = w} r (lines.Up me) told = up_in_range r me (slice_get w.members me) refl
+happening_in_range is {w = w} r (lines.Show me) told = show_in_range r me (slice_get w.members me)
+happening_in_range is {w = w} r (lines.Stop call keep inner) told =
+    turn_at_in_range r is (after_stop call keep) (stopped_in_range r (is_applied call keep)) inner told.2 (aim_of w inner) refl
 
-pub step_in_range : {shape : Shape} → IsShape shape → {w : World} → InRange shape w → (line : Line) → InRange shape (step w line).world
-step_in_range is r line = happening_in_range is (counting_in_range r) line
+pub step_in_range : {shape : Shape} → IsShape shape → {w : World} → InRange shape w → (line : Line) → IsLineOf shape line → InRange shape (step w line).world
+step_in_range is r line told = happening_in_range is (counting_in_range r) line told
 
 newborn_durable : (shape : Shape) → IsShape shape → DurableInRange shape born
 newborn_durable shape is = record {
@@ -165,6 +170,7 @@ newborn_in_range shape is me is_member = record {
   me = refl;
   is_member = is_member;
   durable = newborn_durable shape is;
+  clients = (tt, All-nil CallInRange);
   knows = All-nil IsOfNoLog;
 }
 
@@ -177,9 +183,10 @@ start_in_range {shape = shape} is = record {
   sent = All-nil (HasSpelling shape);
 }
 
-run_in_range : {shape : Shape} → IsShape shape → (events : List Line) {w : World} → InRange shape w → InRange shape (run_from w events)
-run_in_range is [] r = r
-run_in_range is (event ∷ events) r = run_in_range is events (step_in_range is r event)
+run_in_range : {shape : Shape} → IsShape shape → (events : List Line) → All (IsLineOf shape) events → {w : World} → InRange shape w → InRange shape (run_from w events)
+run_in_range is [] told r = r
+run_in_range {shape = shape} is (event ∷ events) told r =
+    run_in_range is events (All-tail (IsLineOf shape) event events told) (step_in_range is r event (All-head (IsLineOf shape) event events told))
 
 pub every_run_in_range : EveryRunInRange
-every_run_in_range shape events run = run_in_range run.of_shape events (start_in_range run.of_shape)
+every_run_in_range shape events run = run_in_range run.of_shape events run.in_range (start_in_range run.of_shape)

@@ -8,15 +8,18 @@ use Rattle.entry_frames.specs.declared.message.Message.TheVariants as messages
 use Rattle.entry_frames.specs.declared.peer.Peer.{Peer}
 use Rattle.craft_base.specs.Knowledge.{members}
 use Rattle.world_model.specs.Nodes.{Node, Volatile}
+use Rattle.world_model.specs.declared.call.ClientReply.{ClientReply}
 
 pub record Act : Type 0 where
   pub node : Node
   pub records : List Record
+  -- to clients, and to other members
+  pub replies : List ClientReply
   pub sends : List Message
 
--- the node as it is, nothing recorded and nothing sent
+-- the node as it is, nothing recorded and nothing told
 abbrev pub stays : Node → Act
-stays n = record { node = n; records = []; sends = [] }
+stays n = record { node = n; records = []; replies = []; sends = [] }
 
 -- one record more, applied
 abbrev pub recording : Record → Act → Act
@@ -32,6 +35,10 @@ recording_all records act =
 abbrev pub keeping : Volatile → Act → Act
 keeping volatile act = record act { node = record act.node { volatile = volatile } }
 
+-- these replies to clients more
+abbrev pub answering : List ClientReply → Act → Act
+answering replies act = record act { replies = act.replies ++ replies }
+
 -- these messages more
 abbrev pub sending : List Message → Act → Act
 sending sends act = record act { sends = act.sends ++ sends }
@@ -40,7 +47,7 @@ sending sends act = record act { sends = act.sends ++ sends }
 abbrev pub followed_by : Act → (Node → Act) → Act
 followed_by act rule =
     let next = rule act.node in
-    record { node = next.node; records = act.records ++ next.records; sends = act.sends ++ next.sends }
+    record { node = next.node; records = act.records ++ next.records; replies = act.replies ++ next.replies; sends = act.sends ++ next.sends }
 
 -- its records, applied in order, leave what outlives a crash of its node
 abbrev pub IsRecorded : Node → Act → Type 0

@@ -8,10 +8,11 @@ use Rattle.entry_frames.specs.declared.role.Role.TheVariants.{Follower}
 use Rattle.world_model.specs.Nodes.{Node}
 use Rattle.world_model.specs.Rules.Acts.{Act, stays, recording, keeping, sending, message_of}
 
--- a higher term: the node is a follower in it, has cast no vote and has heard nothing. Its quiet time goes on.
+-- a higher term: the node is a follower in it, has cast no vote and has heard nothing, and nobody is
+-- answered any more who asked in the term before. Its quiet time goes on.
 abbrev pub act_of_higher_term : ℕ → Node → Act
 act_of_higher_term term n =
-    keeping (record n.volatile { role = Follower; hint = None; heard = []; first = 0 }) (recording (Term term None) (stays n))
+    keeping (record n.volatile { role = Follower; hint = None; heard = []; first = 0; calls = [] }) (recording (Term term None) (stays n))
 
 -- the term of a message that isn't of a lower term
 abbrev pub act_of_term : ℕ → Node → Act

@@ -24,7 +24,7 @@ waiting_node n = record n { volatile = record n.volatile { quiet = min (n.volati
 -- a candidacy in the next term, with the node's own vote
 abbrev pub act_of_candidacy : Node → Act
 act_of_candidacy n =
-    keeping (record { role = Candidate; quiet = 0; hint = None; heard = []; first = 0 }) (recording (Term (n.durable.term + 1) (Some n.me)) (stays n))
+    keeping (record n.volatile { role = Candidate; quiet = 0; hint = None; heard = []; first = 0 }) (recording (Term (n.durable.term + 1) (Some n.me)) (stays n))
 
 -- a candidate asks all others for their vote, and shows the end of its log
 abbrev pub vote_requests : Node → List Message

@@ -13,5 +13,5 @@ returns c = λ n is.
     ap (λ term. Term (term + 1) (Some c.number-me.result)) (c.term-next.ensures ∙ ap (λ d. d.term) is.stands.of_durable)
     ∙ ap (λ me. Term (n.durable.term + 1) (Some me)) (c.number-me.ensures.value ∙ is.stands.of_me) in
     let first = subst (λ (r : Record). IsActed (recording r (stays n)) c.args.self between) own (c.in_ok-act.ensures.acts n is) in
-    become_after (recording (Term (n.durable.term + 1) (Some n.me)) (stays n)) (λ m. record m { volatile = record { role = Candidate; quiet = 0; hint = None; heard = []; first = 0 } })
+    become_after (recording (Term (n.durable.term + 1) (Some n.me)) (stays n)) (λ m. record m { volatile = record m.volatile { role = Candidate; quiet = 0; hint = None; heard = []; first = 0 } })
     c.args.self between (record between { member = c.enter_as_candidate.new.self }) first refl c.in_ok-enter_as_candidate.ensures

@@ -18,6 +18,7 @@ use Rattle.node_core.specs.Acting.{IsActed}
 use Rattle.node_core.specs.Appending.{IsPlaceOf}
 use Rattle.node_core.proofs.Acting.{acted_after}
 use Rattle.node_core.proofs.Choosing.{taken_if_suited}
+use Rattle.node_core.proofs.Serving.{is_served}
 use Rattle.node_core.proofs.Taking.{commits_later, places_of}
 use Rattle.node_core.proofs.act.Act.carry_out.Goals as goal
 
@@ -68,3 +69,8 @@ returns-in_ok-act-in-Take-2 c = IfOk-weaker c.match_with.result _ _ (λ x said n
     (acted_after (act_of_entries prev es n) (λ t. followed_by (act_of_commit theirs t) (act_of_match leader prev (length es))) self act1 x first
     (acted_after (act_of_commit theirs taken) (act_of_match leader prev (length es)) act1 act2 x second third)))
     c.match_with.ensures
+
+pub commit_to-requires-clause-served : goal.commit_to-requires-clause-served
+commit_to-requires-clause-served c =
+    let one = c.requires.stands in
+    is_served c.in_ok-act-in-Take.act.member _ (c.in_ok-act-in-Take.ensures.acts one.0 one.1).node

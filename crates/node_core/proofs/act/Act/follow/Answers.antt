@@ -37,3 +37,6 @@ returns c = IfOk-weaker c.carry_out.result _ _ (λ x carried n is.
     acted_from (act_of_heard_append (sender_byte frame) (prev_of body) (prev_term_of body) (commit_of body) (entries_of body) now) c.args.self between x refl c.hear_leader.ensures.store
     (carried now (subst (λ leader. IsNode c.hear_leader.new.self (record n { volatile = following leader n })) c.from.ensures (c.hear_leader.ensures.node n is))))
     c.carry_out.ensures
+
+pub carry_out-requires-clause-stands : goal.carry_out-requires-clause-stands
+carry_out-requires-clause-stands c = let r = c.requires.ranged in (record r.node { volatile = following c.from.result r.node }, c.hear_leader.ensures.node r.node r.is)

@@ -2,7 +2,7 @@ use Rattle.std.proofs.Common.{refl, subst, arith}
 use Rattle.std.proofs.lemmas.List.Elements.{All-nil}
 use Rattle.entry_frames.specs.Stored.{DurableInRange}
 use Rattle.world_model.specs.Nodes.{started}
-use Rattle.world_model.specs.Ranges.{IsOfNoLog}
+use Rattle.world_model.specs.Ranges.{CallInRange, IsOfNoLog}
 use Rattle.node_core.proofs.running.Core.boot.Goals as goal
 
 pub invariant_of-result : goal.invariant_of-result
@@ -18,14 +18,17 @@ invariant_of-result c = record {
       of_hint = refl;
       of_heard = c.in_ok-heard.ensures.nothing;
       settled = omega (arith, c.in_ok-heard.ensures.settled);
+      of_calls = c.new-2.ensures.items;
     };
     of_store = c.requires.store;
+    of_service = c.in_ok-service.ensures;
   };
   ranged = record {
     of_shape = refl;
     me = refl;
     is_member = c.requires.member;
     durable = subst (λ s. DurableInRange s c.args.store.kept) c.requires.store c.law.ensures;
+    clients = (tt, All-nil CallInRange);
     knows = All-nil IsOfNoLog;
   };
 }

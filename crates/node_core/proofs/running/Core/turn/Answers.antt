@@ -3,10 +3,15 @@ use Rattle.std.specs.Option.{option_to_list}
 use Rattle.std.specs.Prelude.{◌==◌, ◌&&◌}
 use Rattle.entry_frames.specs.declared.output.Output.TheVariants as outputs
 use Rattle.entry_frames.specs.declared.role.Role.TheVariants.{Preparing}
+use Rattle.entry_frames.specs.Durable.{Durable}
+use Rattle.kv_apply.specs.Services as services
 use Rattle.world_model.specs.Ranges.{EventInRange}
+use Rattle.world_model.specs.Rules.Call.{applied_heads}
 use Rattle.world_model.specs.Turn as turns
+use Rattle.world_model.specs.Turn.{reply_output}
 use Rattle.node_core.specs.Stands.{Kept, Stands}
 use Rattle.node_core.specs.Acting.{IsNode, kept_of}
+use Rattle.node_core.specs.Serving.{heads_up_to}
 use Rattle.node_core.specs.declared.telling.Before.{Before}
 use Rattle.node_core.specs.declared.turn.Turned.{Turned}
 use Rattle.node_core.specs.Turns.{TurnedTo, change_of, event_of, growth_of}
@@ -28,26 +33,29 @@ returns-clause-turned c = λ n s.
     let act = c.in_ok-act-2.act in
     let cuts = act.cuts.items in
     let wholes = act.wholes.items in
+    let replies = act.replies.items in
     let sends = act.sends.items in
     let told : EventInRange m.shape m.me event = subst (λ k. EventInRange k.shape k.me event) (sym c.self.view_is) c.requires.ranged in
     let stands : Stands (kept_of m) n = subst (λ (k : Kept). Stands k n) (sym c.self.view_is) s in
-    let is_node : IsNode m n = record { stands = stands; of_store = r.is.of_store ∙ sym r.is.stands.of_shape ∙ stands.of_shape } in
-    let tells : c.in_ok-outputs.outputs.items ≡ told_between m.role m.store.kept act.member.role act.member.store.kept cuts wholes sends =
+    let served : services.Stands m.service (applied_heads n) =
+    subst (λ (d : Durable). services.Stands m.service (heads_up_to d.commit d)) (sym r.is.stands.of_durable ∙ stands.of_durable) r.is.of_service in
+    let is_node : IsNode m n = record { stands = stands; of_store = r.is.of_store ∙ sym r.is.stands.of_shape ∙ stands.of_shape; of_service = served } in
+    let tells : c.in_ok-outputs.outputs.items ≡ told_between m.role m.store.kept act.member.role act.member.store.kept cuts wholes replies sends =
     c.in_ok-outputs.ensures
-    ∙ ap (λ role. (option_to_list role ++ (map (λ index. outputs.Cut index c.prepares.result) cuts ++ (map outputs.Whole wholes ++ option_to_list c.commit_change.result))) ++ map outputs.Send sends)
+    ∙ ap (λ role. (option_to_list role ++ (map (λ index. outputs.Cut index c.prepares.result) cuts ++ (map outputs.Whole wholes ++ option_to_list c.commit_change.result))) ++ (map reply_output replies ++ map outputs.Send sends))
     c.role_change.ensures
     ∙ ap (λ prep. (option_to_list (change_of c.of-before.result.role c.of-before.result.term act.member.role act.member.store.kept.term)
-    ++ (map (λ index. outputs.Cut index prep) cuts ++ (map outputs.Whole wholes ++ option_to_list c.commit_change.result))) ++ map outputs.Send sends)
+    ++ (map (λ index. outputs.Cut index prep) cuts ++ (map outputs.Whole wholes ++ option_to_list c.commit_change.result))) ++ (map reply_output replies ++ map outputs.Send sends))
     c.prepares.ensures
     ∙ ap (λ grown. (option_to_list (change_of c.of-before.result.role c.of-before.result.term act.member.role act.member.store.kept.term)
     ++ (map (λ index. outputs.Cut index (turns.is_same_role c.of-before.result.role Preparing && (c.of-before.result.term == act.member.store.kept.term))) cuts
-    ++ (map outputs.Whole wholes ++ option_to_list grown))) ++ map outputs.Send sends)
+    ++ (map outputs.Whole wholes ++ option_to_list grown))) ++ (map reply_output replies ++ map outputs.Send sends))
     c.commit_change.ensures
     ∙ ap (λ (b : Before). (option_to_list (change_of b.role b.term act.member.role act.member.store.kept.term)
     ++ (map (λ index. outputs.Cut index (turns.is_same_role b.role Preparing && (b.term == act.member.store.kept.term))) cuts
-    ++ (map outputs.Whole wholes ++ option_to_list (growth_of b.commit act.member.store.kept.commit)))) ++ map outputs.Send sends)
+    ++ (map outputs.Whole wholes ++ option_to_list (growth_of b.commit act.member.store.kept.commit)))) ++ (map reply_output replies ++ map outputs.Send sends))
     c.of-before.ensures in
     let left : Turned = record { group = c.in_ok-group.group; outputs = c.in_ok-outputs.outputs } in
     subst (λ (k : Kept). TurnedTo k n event (kept_of act.member) left) c.self.view_is
     (turned_to m event c.in_ok-act.act act c.in_ok-act.ensures.member c.in_ok-act-2.ensures c.law.ensures told r
-    c.in_ok-act.ensures.group c.in_ok-act.ensures.cuts c.in_ok-act.ensures.wholes c.in_ok-act.ensures.sends left c.in_ok-group.ensures tells n is_node)
+    c.in_ok-act.ensures.group c.in_ok-act.ensures.cuts c.in_ok-act.ensures.wholes c.in_ok-act.ensures.replies c.in_ok-act.ensures.sends left c.in_ok-group.ensures tells n is_node)

@@ -1,6 +1,7 @@
 use Rattle.std.proofs.Common.{◌≡◌, ◌<◌, ◌+◌, ◌++◌, ◌∷◌, [], length, arith, ap, ◌∙◌, subst, sym}
 use Rattle.std.proofs.lemmas.List.{length-map}
 use Rattle.world_model.specs.Lines.{event_lines, event_text}
+use Rattle.world_model.specs.Spelling.{IsLineOf}
 use Rattle.world_model.specs.World as model
 use Rattle.schedule_replay.specs.Network.{frame_bytes}
 use Rattle.schedule_replay.specs.Seats.{AreSeats}
@@ -14,24 +15,27 @@ use Rattle.schedule_replay.proofs.world.World.step.Goals as goal
 pub keep_messages-requires : goal.keep_messages-requires
 keep_messages-requires c =
     let shape = c.self.inside.shape in
+    let of_line = subst (λ k. IsLineOf k.shape c.args.line.now) (sym c.self.view_is) c.requires.line in
     let w = model.run shape c.self.invariant.0 in
     let parts = c.self.invariant.1.parts in
     let seen = subst (λ sent. PartsStand shape c.self.inside.seats.items sent w) (sym c.deref.ensures.value) parts in
-    line_can_send parts.is_shape parts.in_range c.args.line.now c.deref-2.result.now (c.deref-2.ensures.value ∙ (c.in_ok-happened.ensures.told w seen).outputs)
+    line_can_send parts.is_shape parts.in_range c.args.line.now of_line c.deref-2.result.now (c.deref-2.ensures.value ∙ (c.in_ok-happened.ensures.told w seen).outputs)
 
 pub event_text-requires-clause-sends : goal.event_text-requires-clause-sends
 event_text-requires-clause-sends c =
     let shape = c.self.inside.shape in
+    let of_line = subst (λ k. IsLineOf k.shape c.args.line.now) (sym c.self.view_is) c.requires.line in
     let w = model.run shape c.self.invariant.0 in
     let parts = c.self.invariant.1.parts in
     let seen = subst (λ sent. PartsStand shape c.self.inside.seats.items sent w) (sym c.deref.ensures.value) parts in
     let outputs = c.in_ok-happened.happened.outputs.items in
-    send_peers shape outputs (line_can_send parts.is_shape parts.in_range c.args.line.now outputs (c.in_ok-happened.ensures.told w seen).outputs)
+    send_peers shape outputs (line_can_send parts.is_shape parts.in_range c.args.line.now of_line outputs (c.in_ok-happened.ensures.told w seen).outputs)
 
 -- what the clauses of the calls say of the world after the line, whatever events it stood for before
 pub invariant_of-result : goal.invariant_of-result
 invariant_of-result c =
     let shape = c.self.inside.shape in
+    let of_line = subst (λ k. IsLineOf k.shape c.args.line.now) (sym c.self.view_is) c.requires.line in
     let events = c.self.invariant.0 in
     let s = c.self.invariant.1 in
     let w = model.run shape events in
@@ -44,13 +48,14 @@ invariant_of-result c =
     let most = c.most_committed.ensures shape (model.step w c.args.line.now).world.members (subst (λ l. AreSeats shape l (model.step w c.args.line.now).world.members) (sym c.deref-4.ensures.value) sit) in (
       events ++ c.args.line.now ∷ [],
       world_more shape events c.args.line.now c.self.inside.seats.items c.happen.new.seats.items c.self.inside.sent.items c.keep_messages.new.sent.items c.self.inside.tally c.counted_on-tally.result
-          c.deref-2.result.now s sit same c.in_ok-keep_messages.ensures c.counted_on-tally.ensures.events (omega (arith, c.counted_on-tally.ensures.frames, c.len-2.ensures, c.keep_messages.new.sent.ok.0)) (omega arith)
+          c.deref-2.result.now s of_line sit same c.in_ok-keep_messages.ensures c.counted_on-tally.ensures.events (omega (arith, c.counted_on-tally.ensures.frames, c.len-2.ensures, c.keep_messages.new.sent.ok.0)) (omega arith)
           counts.replies counts.leaders (c.counted_on-tally.ensures.commit ∙ most) (omega arith) counts.cuts,
     )
 
 pub returns-clause-stands : goal.returns-clause-stands
 returns-clause-stands c = λ events stands.
     let shape = c.self.inside.shape in
+    let of_line = subst (λ k. IsLineOf k.shape c.args.line.now) (sym c.self.view_is) c.requires.line in
     let s = subst (λ k. StandsFor k events) (sym c.self.view_is) stands in
     let w = model.run shape events in
     let seen = subst (λ sent. PartsStand shape c.self.inside.seats.items sent w) (sym c.deref.ensures.value) s.parts in
@@ -61,7 +66,7 @@ returns-clause-stands c = λ events stands.
     c.counted_on-tally.ensures.replies c.counted_on-tally.ensures.leaders c.counted_on-tally.ensures.cuts in
     let most = c.most_committed.ensures shape (model.step w c.args.line.now).world.members (subst (λ l. AreSeats shape l (model.step w c.args.line.now).world.members) (sym c.deref-4.ensures.value) sit) in
     world_more shape events c.args.line.now c.self.inside.seats.items c.happen.new.seats.items c.self.inside.sent.items c.keep_messages.new.sent.items c.self.inside.tally c.counted_on-tally.result
-    c.deref-2.result.now s sit same c.in_ok-keep_messages.ensures c.counted_on-tally.ensures.events (omega (arith, c.counted_on-tally.ensures.frames, c.len-2.ensures, c.keep_messages.new.sent.ok.0)) (omega arith)
+    c.deref-2.result.now s of_line sit same c.in_ok-keep_messages.ensures c.counted_on-tally.ensures.events (omega (arith, c.counted_on-tally.ensures.frames, c.len-2.ensures, c.keep_messages.new.sent.ok.0)) (omega arith)
     counts.replies counts.leaders (c.counted_on-tally.ensures.commit ∙ most) (omega arith) counts.cuts
 
 pub returns-clause-text : goal.returns-clause-text

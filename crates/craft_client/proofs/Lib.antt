@@ -1,0 +1,3 @@
+mod AllTries
+mod OneTry
+mod Packets

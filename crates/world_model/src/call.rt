@@ -1,0 +1,25 @@
+//! What is kept of a client's request until it is answered, and the answer.
+
+use craft_base::Reply;
+
+/// A request that a leader has added to its log and hasn't answered yet.
+#[derive(Clone, Copy, Debug, PartialEq, Eq)]
+pub struct Called {
+    /// The index of its entry.
+    pub index: u64,
+    /// From where it came.
+    pub place: u64,
+    /// Who asked, and its number for the request: both are 1 to 2^62.
+    pub client: u64,
+    pub seq: u64,
+}
+
+/// What a client is told, at the place from which it asked.
+#[derive(Debug, Drop)]
+pub struct ClientReply {
+    pub place: u64,
+    /// Whom it is for, and which request of its: both are 1 to 2^62.
+    pub client: u64,
+    pub seq: u64,
+    pub reply: Reply,
+}
