@@ -1,1 +1,3 @@
-mod Asked
+mod Asking
+mod Planned
+mod Serving

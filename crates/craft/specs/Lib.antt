@@ -1,2 +1,4 @@
+pub mod Asks
 pub mod Program
+pub mod Serves
 pub mod Statuses

@@ -1,12 +1,14 @@
 //! Whole runs of the top call, with what they print worked out by hand.
 ghost use Rattle.std.specs.Prelude.{◌<◌};
 
-use crate::adapters::NoDisk;
+use crate::paths::{paths_of, place_of};
 use crate::status::{Status, code_of, text_of};
-use crate::top::{craft, paths_of, place_of};
+use crate::top::craft;
 use craft_edge::{MemClock, MemLink, MemSink, MemSource};
+use crash_disk::MemDisk;
 use std::alloc::Global;
 use std::test::Fail;
+use synced_log::Owner;
 
 const ELECTION: &[u8] = b"tick 0 0\ntick 0 0\ntick 0 0\ntake 1\ntake 3\n";
 
@@ -14,7 +16,7 @@ const ELECTION_TEXT: &[u8] =
     b"1 done\n2 done\n3 done\nrole 0 candidate 1\nsend 1 0 1 vote 1 0 0\nsend 2 0 2 vote 1 0 0\n4 done\nrole 1 follower 1\nsend 3 1 0 voted 1 yes\n5 done\nrole 0 leader 1\nsend 4 0 1 append 1 0 0 0 w\nsend 5 0 2 append 1 0 0 0 w\n";
 
 /// The words of a command line.
-fn words_of(alloc: Global, line: &str) -> Result<Vec<String>, Fail> {
+pub(crate) fn words_of(alloc: Global, line: &str) -> Result<Vec<String>, Fail> {
     let mut words = Vec::new(alloc);
     for word in line.split(' ') {
         words.push(String::from_str(alloc, word)?)?;
@@ -30,9 +32,12 @@ fn run_over(
     mut out: MemSink,
 ) -> Result<(Status, Vec<u8>), Fail> {
     let words = words_of(alloc, line)?;
+    if paths_of(alloc, &words)?.len() != 0 {
+        return Err("a command that has a journal".into());
+    }
     let mut link = MemLink::new(Vec::new(alloc), Vec::new(alloc));
     let mut clock = MemClock::new(vec![in alloc; 0]?);
-    let disks: Vec<NoDisk> = Vec::new(alloc);
+    let disks: Vec<MemDisk> = Vec::new(alloc);
     let (status, _) = craft(
         alloc, &words, &mut src, &mut out, disks, &mut link, &mut clock,
     );
@@ -244,8 +249,29 @@ fn a_device_that_fails_ends_the_run(rt: HostRuntime) -> Result<(), Fail> {
 
 #[test]
 fn each_status_has_its_code_and_its_text(rt: HostRuntime) -> Result<(), Fail> {
-    let table: [(Status, u8, &[u8]); 7] = [
+    let (found, wanted) = (Owner { f: 1, k: 2, me: 0 }, Owner { f: 1, k: 1, me: 0 });
+    let table: [(Status, u8, &[u8]); 12] = [
         (Status::Done, 0, b""),
+        (
+            Status::BadJournal {
+                disk: 0,
+                offset: 32,
+            },
+            4,
+            b"craft: bad journal 0 at byte 32\n",
+        ),
+        (
+            Status::WrongOwner { found, wanted },
+            5,
+            b"craft: wrong owner 1 2 0, wanted 1 1 0\n",
+        ),
+        (Status::DiskFault, 8, b"craft: disk failed\n"),
+        (Status::LinkFault, 9, b"craft: link failed\n"),
+        (
+            Status::NoAnswer { sent: 20 },
+            10,
+            b"craft: no answer after 20 sends\n",
+        ),
         (Status::BadWords, 2, b"craft: bad words\n"),
         (
             Status::BadSchedule { line: 2 },

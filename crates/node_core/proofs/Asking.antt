@@ -4,7 +4,6 @@ use Rattle.std.specs.Prelude.{◌||◌}
 use Rattle.std.specs.List.{All}
 use Rattle.std.proofs.lemmas.Bool.{leb-false}
 use Rattle.std.proofs.lemmas.List.Elements.{All-weaker}
-use Rattle.craft_base.specs.Knowledge.{Heard, Told, Answered, Beat, From, Matched, Refused, Voted}
 use Rattle.craft_base.specs.Shape.{Shape}
 use Rattle.craft_base.specs.declared.command.Entry.{Entry}
 use Rattle.craft_base.specs.declared.command.Reply.TheVariants as replies
@@ -12,8 +11,9 @@ use Rattle.craft_base.specs.declared.command.Request.{Request}
 use Rattle.entry_frames.specs.Bulk.{bulk_of}
 use Rattle.entry_frames.specs.declared.role.Role.TheVariants.{Leader}
 use Rattle.world_model.specs.Nodes.{Node}
-use Rattle.world_model.specs.Ranges.{ItemInRange, NodeInRange, ToldInRange}
+use Rattle.world_model.specs.Ranges.{ItemInRange, NodeInRange}
 use Rattle.world_model.specs.Rules.Call as rule
+use Rattle.world_model.proofs.Ranges.Call.{item_longer}
 use Rattle.world_model.proofs.Ranges.Knowing.{knows_as}
 use Rattle.world_model.proofs.Ranges.Starts.{starts_within}
 use Rattle.node_core.specs.Acting.{StartsInRange}
@@ -44,16 +44,6 @@ module _ (place : ℕ) (r : Request) (n : Node) where
   asked room free = open_as false room free
 
 -- ---- what was heard, where the log grows
-
-told_longer : (last at : ℕ) (told : Told) → ToldInRange last at told → ToldInRange (last + 1) at told
-told_longer last at (Voted granted) ranged = tt
-told_longer last at (Matched prev count mask) ranged = omega (arith, ranged)
-told_longer last at (Refused next) ranged = (omega (arith, ranged.0), ranged.1)
-told_longer last at Answered ranged = tt
-
-item_longer : (last : ℕ) (item : Heard) → ItemInRange last item → ItemInRange (last + 1) item
-item_longer last Beat ranged = tt
-item_longer last (From sender at told) ranged = told_longer last at told ranged
 
 -- a leader whose log is one entry longer sends from places of its log still
 pub asking_starts : {shape : Shape} {member : ℕ} {n : Node} → NodeInRange shape member n → n.volatile.role ≡ Leader → (place : ℕ) (r : Request) →

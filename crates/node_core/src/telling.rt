@@ -119,6 +119,7 @@ fn tell_cuts(told: &mut Vec<Output>, cuts: &[u64], prep: bool) -> Result<(), Out
     Ok(())
 }
 
+/// Adds an output for each entry that became whole.
 fn tell_wholes(told: &mut Vec<Output>, wholes: &[u64]) -> Result<(), OutOfMemory>
     ensures { OnOk result (told.new.items ≡ told.old.items ++ map outputs.Whole wholes.now) }
 {
@@ -128,6 +129,7 @@ fn tell_wholes(told: &mut Vec<Output>, wholes: &[u64]) -> Result<(), OutOfMemory
     Ok(())
 }
 
+/// Adds a reply for each that a rule makes.
 fn tell_replies(told: &mut Vec<Output>, replies: Vec<ClientReply>) -> Result<(), OutOfMemory>
     ensures { OnOk result (told.new.items ≡ told.old.items ++ map reply_output replies.items) }
 {

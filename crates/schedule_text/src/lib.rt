@@ -2,7 +2,6 @@
 //! outlives its crash as lines.
 #![tactic(auto)]
 
-mod calls;
 mod forms;
 mod line_fault;
 mod message;

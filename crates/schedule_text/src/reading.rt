@@ -1,13 +1,12 @@
 //! The grammar of a schedule's lines.
 ghost use Rattle.std.specs.Prelude.{◌≡◌, map, Some, None, IfOk, IfErr};
-ghost use Rattle.world_model.specs.Schedule.{line_in, line_of_words, member_of, member_of_words, stop_of_words, inner_of_words, tick_line, take_line, call_of};
+ghost use Rattle.world_model.specs.Schedule.{line_in, line_of_words, member_of_words, stop_of_words, inner_of_words, tick_line, take_line, call_of};
 ghost use Rattle.world_model.specs.Schedule as schedule;
 ghost use Rattle.schedule_text.specs.declared.line_fault.LineFault.TheVariants.{Bad};
 
-use crate::calls::request_in;
 use crate::line_fault::LineFault;
 use craft_base::{MemberId, Request, Shape};
-use line_input::{number, words};
+use line_input::{member_of, number, request_in, words};
 use std::alloc::{AllocError, Global};
 use world_model::{Inner, Line};
 
@@ -53,19 +52,9 @@ fn member_alone(shape: &Shape, words: &[&[u8]]) -> Option<MemberId>
     ensures { result ≡ member_of_words shape.now (map (λ word. word.now) words.now) }
 {
     match words {
-        [member] => member_with(shape, number(member)?),
+        [member] => member_of(shape, number(member)?),
         _ => None,
     }
-}
-
-/// The member of that number.
-fn member_with(shape: &Shape, number: u64) -> Option<MemberId>
-    ensures { result ≡ member_of shape.now (Some number) }
-{
-    if number >= u64::from(shape.members()) {
-        return None;
-    }
-    MemberId::new(shape, number as u8)
 }
 
 /// `stop c b e`, by what stands behind `stop`.
@@ -125,7 +114,7 @@ fn tick_of(shape: &Shape, name: &[u8], member: &[u8], word: &[u8]) -> Option<Inn
     }
     let member = number(member)?;
     let word = number(word)?;
-    let member = member_with(shape, member)?;
+    let member = member_of(shape, member)?;
     Some(Inner::Tick { member, word })
 }
 
@@ -145,9 +134,9 @@ fn take_of(name: &[u8], frame: &[u8]) -> Option<Inner>
 
 /// `call i client seq op key value`, by its member and what the client asks for.
 fn call_with(shape: &Shape, member: Option<u64>, request: Option<Request>) -> Option<Inner>
-    ensures { result ≡ call_of (member_of shape.now member) request }
+    ensures { result ≡ call_of (schedule.member_of shape.now member) request }
 {
-    let member = member_with(shape, member?)?;
+    let member = member_of(shape, member?)?;
     let request = request?;
     Some(Inner::Call { member, request })
 }

@@ -6,8 +6,6 @@ use Rattle.hex.specs.Hex.{encode_with}
 use Rattle.craft_base.specs.Shape.{Shape}
 use Rattle.world_model.specs.Lines.{lines_of_run}
 use Rattle.world_model.specs.Schedule.{reading}
-use Rattle.world_model.specs.Words.{plan}
-use Rattle.world_model.specs.declared.command.Command.TheVariants.{Replay, Split, Join}
 use Rattle.world_model.specs.declared.line.Inner.TheVariants.{Tick, Take}
 use Rattle.world_model.specs.declared.line.Line.{Line}
 use Rattle.world_model.specs.declared.line.Line.TheVariants.{Do, Down, Show, Stop, Up}
@@ -79,23 +77,3 @@ skipped = refl
 -- the line that is cut short is the bad one
 cut_short : reading three (codes "tick 0 0\ntick 0") ≡ record { events = Do (Tick 0 0) ∷ []; bad = Some 2 }
 cut_short = refl
-
-replay_words : plan (codes "replay" ∷ codes "1" ∷ codes "2" ∷ []) ≡ Some (Replay (record { faults = 1; need = 2 }))
-replay_words = refl
-
-split_words : plan (codes "split" ∷ codes "1" ∷ codes "2" ∷ []) ≡ Some (Split (record { faults = 1; need = 2 }))
-split_words = refl
-
-join_words : plan (codes "join" ∷ codes "7" ∷ codes "8" ∷ []) ≡ Some (Join (record { faults = 7; need = 8 }))
-join_words = refl
-
--- a command's name stands whole, in small letters
-no_such_name : plan (codes "Join" ∷ codes "7" ∷ codes "8" ∷ []) ≡ None
-no_such_name = refl
-
--- no cluster survives eight failures, and three of two fragments are none
-no_such_shape : plan (codes "replay" ∷ codes "8" ∷ codes "1" ∷ []) ≡ None
-no_such_shape = refl
-
-no_such_need : plan (codes "replay" ∷ codes "1" ∷ codes "3" ∷ []) ≡ None
-no_such_need = refl

@@ -21,4 +21,3 @@ pub mod InnerLines
 pub mod ScheduleLines
 pub mod BadLines
 pub mod Readings
-pub mod CommandWords

@@ -9,7 +9,6 @@ pub mod Lines
 pub mod Numbers
 pub mod Calls
 pub mod Schedule
-pub mod Words
 pub mod Spelling
 pub mod Safety
 pub mod Ranges

@@ -1,14 +1,12 @@
--- How numbers, events, schedules and commands are spelled, by cases on their bytes.
+-- How numbers, events and schedules are spelled, by cases on their bytes.
 use Rattle.std.specs.Prelude.{◌≡◌, ◌≢◌, ℕ, ◌+◌, ◌*◌, ◌^◌, ◌<◌, ◌≤◌, List, [], ◌∷◌, ◌++◌, length, codes, Bool, true, false}
 use Rattle.std.specs.List.{join_with_byte}
-use Rattle.craft_base.specs.Shape.{Shape, IsShape, members_of}
+use Rattle.craft_base.specs.Shape.{Shape, members_of}
 use Rattle.craft_base.specs.declared.command.Op.{Op}
 use Rattle.craft_base.specs.declared.command.Op.TheVariants as ops
 use Rattle.world_model.specs.Calls.{IsRequest}
 use Rattle.world_model.specs.Lines.{bytes_word}
 use Rattle.world_model.specs.Schedule.{most_lines, longest_line}
-use Rattle.world_model.specs.declared.command.Command.{Command}
-use Rattle.world_model.specs.declared.command.Command.TheVariants.{Replay, Split, Join}
 use Rattle.world_model.specs.declared.line.Inner.{Inner}
 use Rattle.world_model.specs.declared.line.Inner.TheVariants.{Tick, Take, Call}
 use Rattle.world_model.specs.declared.line.Line.{Line}
@@ -108,25 +106,3 @@ IsAllGood shape bytes events = AreLines shape 1 bytes events []
 -- line n is the first that isn't good, and these are the events of the lines before it
 abbrev pub IsFirstBad : Shape → List ℕ → List Line → ℕ → Type 0
 IsFirstBad shape bytes events n = (rest : List ℕ) × AreLines shape 1 bytes events rest × (n ≡ length events + 1) × IsBadFrom shape n rest
-
--- the name of a command
-abbrev pub command_name : Command → List ℕ
-command_name (Replay shape) = codes "replay"
-command_name (Split shape) = codes "split"
-command_name (Join shape) = codes "join"
-
--- the cluster that a command is for
-abbrev pub command_shape : Command → Shape
-command_shape (Replay shape) = shape
-command_shape (Split shape) = shape
-command_shape (Join shape) = shape
-
--- a command as words: its name, and the two numbers of its cluster, as in `replay F k`
-abbrev pub SpellsCommand : List (List ℕ) → Command → Type 0
-SpellsCommand (name ∷ faults ∷ need ∷ []) command =
-    (name ≡ command_name command) × IsNumber faults (command_shape command).faults × IsNumber need (command_shape command).need
-SpellsCommand _ command = ⊥
-
--- the numbers of a command's cluster are in range
-abbrev pub IsCommand : Command → Type 0
-IsCommand command = IsShape (command_shape command)

@@ -17,9 +17,11 @@ pub struct Called {
 /// What a client is told, at the place from which it asked.
 #[derive(Debug, Drop)]
 pub struct ClientReply {
+    /// Where it goes.
     pub place: u64,
     /// Whom it is for, and which request of its: both are 1 to 2^62.
     pub client: u64,
     pub seq: u64,
+    /// What it says.
     pub reply: Reply,
 }

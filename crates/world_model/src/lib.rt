@@ -4,7 +4,6 @@
 #![tactic(auto)]
 
 mod call;
-mod command;
 mod limits;
 mod line;
 mod tally;
@@ -16,14 +15,11 @@ ghost use Rattle.craft_base.specs.Shape.{Shape};
 ghost use Rattle.world_model.specs.Numbers.{number_of};
 ghost use Rattle.world_model.specs.Ranges.{EveryReplyHasSpelling, EveryRunInRange, EveryTurnCanBeApplied};
 ghost use Rattle.world_model.specs.Schedule.{line_in, reading};
-ghost use Rattle.world_model.specs.Spelling.{IsAllGood, IsCommand, IsFirstBad, IsLineOf, IsNumber, SpellsCommand, SpellsLine};
+ghost use Rattle.world_model.specs.Spelling.{IsAllGood, IsFirstBad, IsLineOf, IsNumber, SpellsLine};
 ghost use Rattle.world_model.specs.Turn.{EveryTurnIsRecorded};
-ghost use Rattle.world_model.specs.Words.{plan};
-ghost use Rattle.world_model.specs.declared.command.Command.{Command};
 ghost use Rattle.world_model.specs.declared.line.Line.{Line};
 
 pub use call::{Called, ClientReply};
-pub use command::Command;
 pub use limits::{LONGEST_LINE, MOST_LINES};
 pub use line::{Inner, Line};
 pub use tally::Tally;
@@ -56,18 +52,6 @@ pub fn bad_lines_are_told_by_their_bytes()
         (reading shape bytes ≡ record { events = events; bad = None }) ↔ IsAllGood shape bytes events }
     ensures bad { (shape : Shape) (bytes : List ℕ) (events : List Line) (n : ℕ) →
         (reading shape bytes ≡ record { events = events; bad = Some n }) ↔ IsFirstBad shape bytes events n }
-{}
-
-/// Words are read as a command, `replay`, `split` or `join` of a cluster, exactly where they spell it and the cluster's
-/// numbers are in range, and so as none where they are outside the grammar. Each command in range has one spelling.
-pub fn words_are_spelled_once()
-    ensures read { (words : List (List ℕ)) (command : Command) →
-        (plan words ≡ Some command) ↔ (SpellsCommand words command × IsCommand command) }
-    ensures none { (words : List (List ℕ)) →
-        (plan words ≡ None) ↔ ((command : Command) → SpellsCommand words command → IsCommand command → ⊥) }
-    ensures once { (words others : List (List ℕ)) (command : Command) →
-        SpellsCommand words command → SpellsCommand others command → words ≡ others }
-    ensures each { (command : Command) → IsCommand command → (words : List (List ℕ)) × SpellsCommand words command }
 {}
 
 /// What outlives a crash changes by the records of a turn alone, whatever a node is told: applied in order, they leave what the

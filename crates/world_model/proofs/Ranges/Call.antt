@@ -44,7 +44,7 @@ told_longer last at (Matched prev count mask) ranged = omega (arith, ranged)
 told_longer last at (Refused next) ranged = (omega (arith, ranged.0), ranged.1)
 told_longer last at Answered ranged = tt
 
-item_longer : (last : ℕ) (item : Heard) → ItemInRange last item → ItemInRange (last + 1) item
+pub item_longer : (last : ℕ) (item : Heard) → ItemInRange last item → ItemInRange (last + 1) item
 item_longer last Beat ranged = tt
 item_longer last (From sender at told) ranged = told_longer last at told ranged
 

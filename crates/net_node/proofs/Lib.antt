@@ -1,0 +1,9 @@
+pub mod CanSend
+pub mod Following
+pub mod Leaving
+pub mod Makings
+pub mod Running
+pub mod SentInOrder
+pub mod Stopping
+pub mod Taking
+pub mod Turning

@@ -1,0 +1,14 @@
+//! The group of a node, and its own place in it.
+use craft_base::{MemberId, Shape};
+use std::alloc::Global;
+
+/// The group that a node is a member of.
+#[derive(Clone, Copy)]
+pub struct Group<'a> {
+    pub alloc: Global,
+    pub shape: &'a Shape,
+    /// The node itself.
+    pub me: MemberId,
+    /// Where each member listens.
+    pub places: &'a [u64],
+}

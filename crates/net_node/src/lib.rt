@@ -1,0 +1,16 @@
+//! A running node: turn by turn it reads its clock or takes a packet, and tells what follows only once that is in its journal.
+#![tactic(auto)]
+
+mod event_text;
+mod group;
+mod heard;
+mod packets;
+mod sending;
+mod serve_end;
+mod serving;
+#[cfg(test)]
+mod tests;
+mod turns;
+
+pub use serve_end::ServeEnd;
+pub use turns::serve;
