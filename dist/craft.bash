@@ -3,7 +3,7 @@ _craft() {
     local word=${COMP_WORDS[COMP_CWORD]} command=${COMP_WORDS[1]-}
     COMPREPLY=()
     if [ "$COMP_CWORD" = 1 ]; then
-        mapfile -t COMPREPLY < <(compgen -W 'replay node ask split join --help --version' -- "$word")
+        mapfile -t COMPREPLY < <(compgen -W 'replay node ask split join storm --help --version' -- "$word")
         return
     fi
     case $command:$COMP_CWORD in

@@ -10,10 +10,10 @@ use Rattle.craft_base.specs.declared.command.Request.{Request}
 use Rattle.entry_frames.specs.Formats.{AreBytes}
 use Rattle.command_words.specs.Places.{places_in}
 use Rattle.command_words.specs.Spelling.{ArePlaces, AreWords, IsAsk, IsCommand, IsNode, SpellsAsk, SpellsNode, SpellsRest, command_name, command_shape}
-use Rattle.command_words.specs.Words.{alone, ask_in, ask_of, command_named, most_turns, node_in, node_of, request_in}
+use Rattle.command_words.specs.Words.{alone, ask_in, ask_of, command_named, most_turns, node_in, node_of, request_in, storm_in}
 use Rattle.command_words.specs.declared.command.AskCommand.{AskCommand}
 use Rattle.command_words.specs.declared.command.Command.{Command}
-use Rattle.command_words.specs.declared.command.Command.TheVariants.{Replay, Node, Ask, Split, Join}
+use Rattle.command_words.specs.declared.command.Command.TheVariants.{Replay, Node, Ask, Split, Join, Storm}
 use Rattle.command_words.specs.declared.command.NodeCommand.{NodeCommand}
 use Rattle.world_model.specs.Calls.{number_within}
 use Rattle.world_model.specs.Lines.{bytes_word}
@@ -22,6 +22,7 @@ use Rattle.world_model.specs.Schedule.{member_of}
 use Rattle.world_model.proofs.Spelling.{IsNumber-read, IsNumber-small, read-IsNumber}
 use Rattle.command_words.proofs.AllPlaces.{places_read, read_places}
 use Rattle.command_words.proofs.NumberWords.{read_within, within_read}
+use Rattle.command_words.proofs.StormWords.{read_storm, storm_read}
 use Rattle.command_words.proofs.TextRequests.{IsAsked, read_text_request, text_request_read}
 
 -- ---- what is spelled is read
@@ -66,6 +67,7 @@ rest_read rest path (Node node) (some, spelled) inside = node_read rest path nod
 rest_read rest path (Ask ask) (_, spelled) inside = ask_read rest ask spelled inside
 rest_read rest path (Split shape) (_, is) inside = ap (alone (Split shape)) is
 rest_read rest path (Join shape) (_, is) inside = ap (alone (Join shape)) is
+rest_read rest path (Storm storm) (_, spelled) inside = storm_read rest storm spelled inside
 
 -- ---- what is read is spelled
 
@@ -196,30 +198,37 @@ unalone own command (word ∷ words) h = cc
 
 pub read_rest : (name : List ℕ) (shape : Shape) (rest : List (List ℕ)) (command : Command) → IsShape shape → AreWords rest
     → command_named name shape rest ≡ Some command → IsNamed name shape rest command
-read_rest name shape rest command is_shape are = by_name (bytes_eq name (codes "replay")) (bytes_eq name (codes "node")) (bytes_eq name (codes "ask")) (bytes_eq name (codes "split")) (bytes_eq name (codes "join")) refl refl refl refl refl where
-  named : (word : List ℕ) → bytes_eq name word ≡ true → IsNamed word shape rest command → IsNamed name shape rest command
-  named word is h = subst (λ w. IsNamed w shape rest command) (sym ((bytes_eq-Decides name word).0 is)) h
+read_rest name shape rest command is_shape are =
+    by_name
+    (bytes_eq name (codes "replay")) (bytes_eq name (codes "node")) (bytes_eq name (codes "ask")) (bytes_eq name (codes "split")) (bytes_eq name (codes "join")) (bytes_eq name (codes "storm")) refl refl refl refl refl refl where
+      named : (word : List ℕ) → bytes_eq name word ≡ true → IsNamed word shape rest command → IsNamed name shape rest command
+      named word is h = subst (λ w. IsNamed w shape rest command) (sym ((bytes_eq-Decides name word).0 is)) h
 
-  of_replay : alone (Replay shape) rest ≡ Some command → IsNamed (codes "replay") shape rest command
-  of_replay h = let (same, none) = unalone (Replay shape) command rest h in
-      subst (IsNamed (codes "replay") shape rest) same (record { path = []; is_name = refl; is_shape = refl; spells = (refl, none); inside = is_shape })
+      of_replay : alone (Replay shape) rest ≡ Some command → IsNamed (codes "replay") shape rest command
+      of_replay h = let (same, none) = unalone (Replay shape) command rest h in
+          subst (IsNamed (codes "replay") shape rest) same (record { path = []; is_name = refl; is_shape = refl; spells = (refl, none); inside = is_shape })
 
-  of_split : alone (Split shape) rest ≡ Some command → IsNamed (codes "split") shape rest command
-  of_split h = let (same, none) = unalone (Split shape) command rest h in
-      subst (IsNamed (codes "split") shape rest) same (record { path = []; is_name = refl; is_shape = refl; spells = (refl, none); inside = is_shape })
+      of_split : alone (Split shape) rest ≡ Some command → IsNamed (codes "split") shape rest command
+      of_split h = let (same, none) = unalone (Split shape) command rest h in
+          subst (IsNamed (codes "split") shape rest) same (record { path = []; is_name = refl; is_shape = refl; spells = (refl, none); inside = is_shape })
 
-  of_join : alone (Join shape) rest ≡ Some command → IsNamed (codes "join") shape rest command
-  of_join h = let (same, none) = unalone (Join shape) command rest h in
-      subst (IsNamed (codes "join") shape rest) same (record { path = []; is_name = refl; is_shape = refl; spells = (refl, none); inside = is_shape })
+      of_join : alone (Join shape) rest ≡ Some command → IsNamed (codes "join") shape rest command
+      of_join h = let (same, none) = unalone (Join shape) command rest h in
+          subst (IsNamed (codes "join") shape rest) same (record { path = []; is_name = refl; is_shape = refl; spells = (refl, none); inside = is_shape })
 
-  by_name : (replay node ask split join : Bool) → bytes_eq name (codes "replay") ≡ replay → bytes_eq name (codes "node") ≡ node
-      → bytes_eq name (codes "ask") ≡ ask → bytes_eq name (codes "split") ≡ split → bytes_eq name (codes "join") ≡ join
-      → (if replay then alone (Replay shape) rest else if node then node_in shape rest else if ask then ask_in shape rest
-      else if split then alone (Split shape) rest else if join then alone (Join shape) rest else None) ≡ Some command
-      → IsNamed name shape rest command
-  by_name true node ask split join is_replay is_node is_ask is_split is_join h = named (codes "replay") is_replay (of_replay h)
-  by_name false true ask split join is_replay is_node is_ask is_split is_join h = named (codes "node") is_node (read_node shape rest command is_shape h)
-  by_name false false true split join is_replay is_node is_ask is_split is_join h = named (codes "ask") is_ask (read_ask shape rest command is_shape are h)
-  by_name false false false true join is_replay is_node is_ask is_split is_join h = named (codes "split") is_split (of_split h)
-  by_name false false false false true is_replay is_node is_ask is_split is_join h = named (codes "join") is_join (of_join h)
-  by_name false false false false false is_replay is_node is_ask is_split is_join h = cc
+      of_storm : storm_in shape rest ≡ Some command → IsNamed (codes "storm") shape rest command
+      of_storm h = let (storm, spelled, inside, is_own, same) = read_storm shape rest command is_shape h in
+          subst (IsNamed (codes "storm") shape rest) same (record { path = []; is_name = refl; is_shape = sym is_own; spells = (refl, spelled); inside = inside })
+
+      by_name : (replay node ask split join storm : Bool) → bytes_eq name (codes "replay") ≡ replay → bytes_eq name (codes "node") ≡ node
+          → bytes_eq name (codes "ask") ≡ ask → bytes_eq name (codes "split") ≡ split → bytes_eq name (codes "join") ≡ join → bytes_eq name (codes "storm") ≡ storm
+          → (if replay then alone (Replay shape) rest else if node then node_in shape rest else if ask then ask_in shape rest
+          else if split then alone (Split shape) rest else if join then alone (Join shape) rest else if storm then storm_in shape rest else None) ≡ Some command
+          → IsNamed name shape rest command
+      by_name true node ask split join storm is_replay is_node is_ask is_split is_join is_storm h = named (codes "replay") is_replay (of_replay h)
+      by_name false true ask split join storm is_replay is_node is_ask is_split is_join is_storm h = named (codes "node") is_node (read_node shape rest command is_shape h)
+      by_name false false true split join storm is_replay is_node is_ask is_split is_join is_storm h = named (codes "ask") is_ask (read_ask shape rest command is_shape are h)
+      by_name false false false true join storm is_replay is_node is_ask is_split is_join is_storm h = named (codes "split") is_split (of_split h)
+      by_name false false false false true storm is_replay is_node is_ask is_split is_join is_storm h = named (codes "join") is_join (of_join h)
+      by_name false false false false false true is_replay is_node is_ask is_split is_join is_storm h = named (codes "storm") is_storm (of_storm h)
+      by_name false false false false false false is_replay is_node is_ask is_split is_join is_storm h = cc

@@ -12,7 +12,7 @@ use Rattle.command_words.specs.Spelling.{AreWords, IsCommand, IsPathOf, SpellsAs
 use Rattle.command_words.specs.Words.{command_of, most_turns, path_in, plan, shape_if_ok, shape_of}
 use Rattle.command_words.specs.declared.command.AskCommand.{AskCommand}
 use Rattle.command_words.specs.declared.command.Command.{Command}
-use Rattle.command_words.specs.declared.command.Command.TheVariants.{Replay, Node, Ask, Split, Join}
+use Rattle.command_words.specs.declared.command.Command.TheVariants.{Replay, Node, Ask, Split, Join, Storm}
 use Rattle.command_words.specs.declared.command.NodeCommand.{NodeCommand}
 use Rattle.world_model.specs.Lines.{bytes_word}
 use Rattle.world_model.specs.Numbers.{number_of}
@@ -22,6 +22,7 @@ use Rattle.world_model.proofs.Spelling.{IsNumber-read, decimal-IsNumber, read-Is
 use Rattle.command_words.proofs.AllPlaces.{one_all, some_all}
 use Rattle.command_words.proofs.CommandWords.{IsNamed, read_rest, rest_read}
 use Rattle.command_words.proofs.NumberWords.{one_number}
+use Rattle.command_words.proofs.StormWords.{one_storm, some_storm}
 
 -- ---- the cluster of two numbers
 
@@ -68,6 +69,7 @@ command_IsShape (Node node) inside = inside.shape
 command_IsShape (Ask ask) inside = inside.shape
 command_IsShape (Split shape) inside = inside
 command_IsShape (Join shape) inside = inside
+command_IsShape (Storm storm) inside = inside.shape
 
 -- ---- what is spelled is read, and what is read is spelled
 
@@ -157,6 +159,7 @@ one_rest words others path (Node node) (_, spelled) (_, as_well) = one_node word
 one_rest words others path (Ask ask) (_, spelled) (_, as_well) = one_ask words others ask spelled as_well
 one_rest words others path (Split shape) (_, is) (_, as_well) = is ∙ sym as_well
 one_rest words others path (Join shape) (_, is) (_, as_well) = is ∙ sym as_well
+one_rest words others path (Storm storm) (_, spelled) (_, as_well) = one_storm words others storm spelled as_well
 
 pub one_command : (words others : List (List ℕ)) (path : List ℕ) (command : Command) → SpellsCommand words path command → SpellsCommand others path command → words ≡ others
 one_command words others path command (faults, need, rest, is_faults, is_need, spelled, is) (faults', need', rest', is_faults', is_need', as_well, is') =
@@ -216,6 +219,7 @@ some_rest (Ask ask) path inside none =
       fits n few = omega arith
 some_rest (Split shape) path inside none = ([], (none, refl))
 some_rest (Join shape) path inside none = ([], (none, refl))
+some_rest (Storm storm) path inside none = let (words, spelled) = some_storm storm inside in (words, (none, spelled))
 
 pub some_command : (command : Command) (path : List ℕ) → IsCommand command → IsPathOf command path → (words : List (List ℕ)) × SpellsCommand words path command
 some_command command path inside is_path =

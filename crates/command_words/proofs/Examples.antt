@@ -5,7 +5,7 @@ use Rattle.hex.specs.Hex.{decode_pairs}
 use Rattle.craft_base.specs.declared.command.Op.TheVariants as ops
 use Rattle.command_words.specs.Places.{place_in}
 use Rattle.command_words.specs.Words.{path_in, plan}
-use Rattle.command_words.specs.declared.command.Command.TheVariants.{Replay, Node, Ask, Split, Join}
+use Rattle.command_words.specs.declared.command.Command.TheVariants.{Replay, Node, Ask, Split, Join, Storm}
 
 -- ---- places
 
@@ -62,6 +62,24 @@ join_words : plan (codes "join" ∷ codes "7" ∷ codes "8" ∷ []) ≡ Some (Jo
 join_words = refl
 
 -- a command's name stands whole, in small letters
+storm_words : plan (codes "storm" ∷ codes "2" ∷ codes "3" ∷ codes "7" ∷ codes "20000" ∷ []) ≡ Some (Storm (record { shape = record { faults = 2; need = 3 }; seed = 7; count = 20000 }))
+storm_words = refl
+
+most_events : plan (codes "storm" ∷ codes "1" ∷ codes "1" ∷ codes "18446744073709551615" ∷ codes "100000" ∷ []) ≡ Some (Storm (record { shape = record { faults = 1; need = 1 }; seed = 18446744073709551615; count = 100000 }))
+most_events = refl
+
+no_events : plan (codes "storm" ∷ codes "1" ∷ codes "1" ∷ codes "0" ∷ codes "0" ∷ []) ≡ None
+no_events = refl
+
+too_many_events : plan (codes "storm" ∷ codes "1" ∷ codes "1" ∷ codes "0" ∷ codes "100001" ∷ []) ≡ None
+too_many_events = refl
+
+storm_seed_too_great : plan (codes "storm" ∷ codes "1" ∷ codes "1" ∷ codes "18446744073709551616" ∷ codes "1" ∷ []) ≡ None
+storm_seed_too_great = refl
+
+storm_without_count : plan (codes "storm" ∷ codes "1" ∷ codes "1" ∷ codes "0" ∷ []) ≡ None
+storm_without_count = refl
+
 no_such_name : plan (codes "Join" ∷ codes "7" ∷ codes "8" ∷ []) ≡ None
 no_such_name = refl
 

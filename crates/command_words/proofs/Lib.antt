@@ -6,5 +6,6 @@ pub mod PlaceWords
 pub mod PlacesLeft
 pub mod AllPlaces
 pub mod TextRequests
+pub mod StormWords
 pub mod CommandWords
 pub mod Commands

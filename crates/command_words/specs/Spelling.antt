@@ -7,8 +7,10 @@ use Rattle.command_words.specs.Places.{place_from}
 use Rattle.command_words.specs.Words.{most_turns}
 use Rattle.command_words.specs.declared.command.AskCommand.{AskCommand}
 use Rattle.command_words.specs.declared.command.Command.{Command}
-use Rattle.command_words.specs.declared.command.Command.TheVariants.{Replay, Node, Ask, Split, Join}
+use Rattle.command_words.specs.declared.command.Command.TheVariants.{Replay, Node, Ask, Split, Join, Storm}
 use Rattle.command_words.specs.declared.command.NodeCommand.{NodeCommand}
+use Rattle.command_words.specs.declared.command.StormCommand.{StormCommand}
+use Rattle.storm_gen.specs.declared.storm.TheConstants.{MOST_EVENTS}
 use Rattle.world_model.specs.Calls.{IsRequest}
 use Rattle.world_model.specs.Lines.{bytes_word}
 use Rattle.world_model.specs.Spelling.{IsNumber, SpellsOp}
@@ -53,6 +55,7 @@ command_name (Node node) = codes "node"
 command_name (Ask ask) = codes "ask"
 command_name (Split shape) = codes "split"
 command_name (Join shape) = codes "join"
+command_name (Storm storm) = codes "storm"
 
 -- the cluster that a command is for
 abbrev pub command_shape : Command → Shape
@@ -61,6 +64,7 @@ command_shape (Node node) = node.shape
 command_shape (Ask ask) = ask.shape
 command_shape (Split shape) = shape
 command_shape (Join shape) = shape
+command_shape (Storm storm) = storm.shape
 
 -- `me seed turns path place0 ..`
 abbrev pub SpellsNode : List (List ℕ) → (path : List ℕ) → NodeCommand → Type 0
@@ -76,6 +80,11 @@ SpellsAsk words ask =
     × IsNumber client ask.request.client × IsNumber seq ask.request.seq × SpellsOp op ask.request.op × AllZip SpellsPlace places ask.places
     × (words ≡ client ∷ seq ∷ op ∷ ask.request.key ∷ bytes_word ask.request.value ∷ places)
 
+-- `seed count`
+abbrev pub SpellsStorm : List (List ℕ) → StormCommand → Type 0
+SpellsStorm words storm =
+    (seed : List ℕ) × (count : List ℕ) × IsNumber seed storm.seed × IsNumber count storm.count × (words ≡ seed ∷ count ∷ [])
+
 -- the words behind a command's cluster, and the path among them
 abbrev pub SpellsRest : List (List ℕ) → (path : List ℕ) → Command → Type 0
 SpellsRest words path (Replay shape) = (path ≡ []) × (words ≡ [])
@@ -83,6 +92,7 @@ SpellsRest words path (Node node) = (path ≢ []) × SpellsNode words path node
 SpellsRest words path (Ask ask) = (path ≡ []) × SpellsAsk words ask
 SpellsRest words path (Split shape) = (path ≡ []) × (words ≡ [])
 SpellsRest words path (Join shape) = (path ≡ []) × (words ≡ [])
+SpellsRest words path (Storm storm) = (path ≡ []) × SpellsStorm words storm
 
 -- A command as words: its name, the two numbers of its cluster, and what stands behind them. The path is the one of the journal
 -- of `node`, which the command doesn't hold; it is empty exactly where there is none.
@@ -108,6 +118,12 @@ pub record IsAsk (ask : AskCommand) : Type 0 where
   pub request : IsRequest ask.request
   pub places : ArePlaces ask.shape ask.places
 
+-- a made schedule of some lines
+pub record IsStorm (storm : StormCommand) : Type 0 where
+  pub shape : IsShape storm.shape
+  pub seed : storm.seed < 2 ^ 64
+  pub count : (1 ≤ storm.count) × (storm.count ≤ MOST_EVENTS)
+
 -- the numbers of a command are in range
 abbrev pub IsCommand : Command → Type 0
 IsCommand (Replay shape) = IsShape shape
@@ -115,6 +131,7 @@ IsCommand (Node node) = IsNode node
 IsCommand (Ask ask) = IsAsk ask
 IsCommand (Split shape) = IsShape shape
 IsCommand (Join shape) = IsShape shape
+IsCommand (Storm storm) = IsStorm storm
 
 -- a node's journal has a path, and no other command has one
 abbrev pub IsPathOf : Command → List ℕ → Type 0
@@ -123,3 +140,4 @@ IsPathOf (Node node) path = path ≢ []
 IsPathOf (Ask ask) path = path ≡ []
 IsPathOf (Split shape) path = path ≡ []
 IsPathOf (Join shape) path = path ≡ []
+IsPathOf (Storm storm) path = path ≡ []

@@ -8,7 +8,8 @@ use Rattle.craft_base.specs.declared.shape.ShapeError.{ShapeError}
 use Rattle.entry_frames.specs.Limits.{greatest, longest_value}
 use Rattle.command_words.specs.Places.{places_in}
 use Rattle.command_words.specs.declared.command.Command.{Command}
-use Rattle.command_words.specs.declared.command.Command.TheVariants.{Replay, Node, Ask, Split, Join}
+use Rattle.command_words.specs.declared.command.Command.TheVariants.{Replay, Node, Ask, Split, Join, Storm}
+use Rattle.storm_gen.specs.declared.storm.TheConstants.{MOST_EVENTS}
 use Rattle.world_model.specs.Calls as calls
 use Rattle.world_model.specs.Calls.{bytes_in, longest_key, number_within, op_in}
 use Rattle.world_model.specs.Numbers.{number_of}
@@ -67,6 +68,18 @@ abbrev pub ask_in : Shape → List (List ℕ) → Option Command
 ask_in shape (client ∷ seq ∷ op ∷ key ∷ value ∷ places) = ask_of shape (request_in client seq op key value) (places_in shape places)
 ask_in shape _ = None
 
+-- ---- storm
+
+-- a made schedule that is to be run
+abbrev pub storm_of : Shape → (seed count : Option ℕ) → Option Command
+storm_of shape (Some seed) (Some count) = Some (Storm (record { shape = shape; seed = seed; count = count }))
+storm_of shape _ _ = None
+
+-- `seed count`
+abbrev pub storm_in : Shape → List (List ℕ) → Option Command
+storm_in shape (seed ∷ count ∷ []) = storm_of shape (number_of seed) (number_within 1 MOST_EVENTS (number_of count))
+storm_in shape _ = None
+
 -- ---- any command
 
 -- the command of that name, for a cluster, by the words behind it
@@ -77,6 +90,7 @@ command_named name shape words =
     else if bytes_eq name (codes "ask") then ask_in shape words
     else if bytes_eq name (codes "split") then alone (Split shape) words
     else if bytes_eq name (codes "join") then alone (Join shape) words
+    else if bytes_eq name (codes "storm") then storm_in shape words
     else None
 
 -- the command of that name, where the numbers behind it make a cluster

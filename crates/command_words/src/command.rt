@@ -16,6 +16,8 @@ pub enum Command {
     Split(Shape),
     /// Rebuild a value from the fragments that come in.
     Join(Shape),
+    /// Run a schedule that a number makes, and print what it came to.
+    Storm(StormCommand),
 }
 
 /// A member that is to run.
@@ -42,4 +44,15 @@ pub struct AskCommand {
     pub request: Request,
     /// Where each member listens.
     pub places: Places,
+}
+
+/// A made schedule that is to be run.
+#[derive(Debug, Drop)]
+pub struct StormCommand {
+    /// The cluster.
+    pub shape: Shape,
+    /// The number that makes the schedule.
+    pub seed: u64,
+    /// How many lines it has: 1 to 100,000.
+    pub count: u64,
 }

@@ -9,8 +9,9 @@ mod places;
 mod reading;
 mod request;
 mod shape;
+mod storm;
 
-pub use command::{AskCommand, Command, NodeCommand};
+pub use command::{AskCommand, Command, NodeCommand, StormCommand};
 pub use laws::words_are_spelled_once;
 pub use places::Places;
 pub use reading::{path_of, plan};

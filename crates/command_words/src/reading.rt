@@ -10,6 +10,7 @@ use crate::place::place_in;
 use crate::places::Places;
 use crate::request::request_in;
 use crate::shape::shape_of_words;
+use crate::storm::storm_of_words;
 use craft_base::{OutOfMemory, Request, Shape};
 use std::alloc::Global;
 
@@ -61,6 +62,7 @@ fn command_named(
         "ask" => ask_in(alloc, shape, words),
         "split" => Ok(alone(Command::Split(shape), words)),
         "join" => Ok(alone(Command::Join(shape), words)),
+        "storm" => Ok(storm_in(shape, words)),
         _ => Ok(None),
     }
 }
@@ -113,6 +115,16 @@ fn ask_in(alloc: Global, shape: Shape, words: &[String]) -> Result<Option<Comman
             Ok(ask_of(shape, request, places))
         }
         _ => Ok(None),
+    }
+}
+
+/// `storm F k seed count`, by what stands behind `k`.
+fn storm_in(shape: Shape, words: &[String]) -> Option<Command>
+    ensures { result ≡ commands.storm_in shape (map string_bytes words.now) }
+{
+    match words {
+        [seed, count] => storm_of_words(shape, seed.as_str(), count.as_str()),
+        _ => None,
     }
 }
 

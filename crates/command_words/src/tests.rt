@@ -29,6 +29,7 @@ fn parts_of(command: &Command) -> (&str, u8, u8) {
         Command::Ask(ask) => ("ask", ask.shape.faults(), ask.shape.need()),
         Command::Split(shape) => ("split", shape.faults(), shape.need()),
         Command::Join(shape) => ("join", shape.faults(), shape.need()),
+        Command::Storm(storm) => ("storm", storm.shape.faults(), storm.shape.need()),
     }
 }
 
@@ -65,6 +66,20 @@ fn a_member_is_read(rt: HostRuntime) -> Result<(), Fail> {
 }
 
 #[test]
+fn a_made_schedule_is_read(rt: HostRuntime) -> Result<(), Fail> {
+    let found = read(rt.alloc(), "storm 2 3 18446744073709551615 100000")?;
+    match &found {
+        Some(Command::Storm(storm)) => {
+            assert_eq!(rt; (storm.shape.faults(), storm.shape.need()), (2, 3));
+            assert_eq!(rt; storm.seed, u64::MAX);
+            assert_eq!(rt; storm.count, 100_000);
+        }
+        found => panic!(rt; "{found:?}"),
+    }
+    Ok(())
+}
+
+#[test]
 fn a_request_is_read(rt: HostRuntime) -> Result<(), Fail> {
     let line = "ask 1 1 7 1 putif=4 a 6263 127.0.0.1:7000 127.0.0.1:7001 127.0.0.1:7002";
     match read(rt.alloc(), line)? {
@@ -88,6 +103,14 @@ fn other_words_are_refused(rt: HostRuntime) -> Result<(), Fail> {
         "replay 8 1",
         "replay 1 3",
         "split 1 2 3",
+        "storm 1 1 0 0",
+        "storm 1 1 0 100001",
+        "storm 1 1 18446744073709551616 1",
+        "storm 1 1 -1 1",
+        "storm 1 1 07 1",
+        "storm 1 1 0",
+        "storm 1 1 0 1 1",
+        "storm 1 3 0 1",
         "node 1 1 3 0 2 j 127.0.0.1:7000 127.0.0.1:7001 127.0.0.1:7002",
         "node 1 1 0 0 2 j 127.0.0.1:7000 127.0.0.1:7001",
         "node 1 1 0 0 0 j 127.0.0.1:7000 127.0.0.1:7001 127.0.0.1:7002",

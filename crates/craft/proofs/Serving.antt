@@ -4,10 +4,9 @@ use Rattle.std.specs.Prelude.{IfSome}
 use Rattle.command_words.specs.declared.command.Command.{Command}
 use Rattle.command_words.specs.declared.command.Command.TheVariants.{Node}
 use Rattle.command_words.specs.declared.command.NodeCommand.{NodeCommand}
-use Rattle.craft_edge.specs.Packets.{Packet}
 use Rattle.entry_frames.specs.Durable.{Durable}
 use Rattle.net_node.specs.Ends.{FaultCounts, HasEnded}
-use Rattle.net_node.specs.NodeRun.{Served, node_run}
+use Rattle.net_node.specs.NodeRun.{node_run}
 use Rattle.net_node.specs.Runs.{IsLeft, StopsAmong, WhereRun}
 use Rattle.net_node.specs.Serving.{Edges}
 use Rattle.net_node.specs.declared.serve_end.ServeEnd.{ServeEnd}

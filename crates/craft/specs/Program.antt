@@ -2,7 +2,8 @@
 use Rattle.std.specs.Prelude.{◌≡◌, ℕ, List, [], ◌∷◌, Option, None, Some, Bool, true, false, slice_get}
 use Rattle.command_words.specs.Words.{path_in, plan}
 use Rattle.command_words.specs.declared.command.Command.{Command}
-use Rattle.command_words.specs.declared.command.Command.TheVariants.{Replay, Node, Ask, Split, Join}
+use Rattle.command_words.specs.declared.command.Command.TheVariants.{Replay, Node, Ask, Split, Join, Storm}
+use Rattle.command_words.specs.declared.command.StormCommand.{StormCommand}
 use Rattle.craft_base.specs.Shape.{Shape}
 use Rattle.craft_client.specs.Telling.{LinkNow}
 use Rattle.craft_edge.specs.Streams.{Streams}
@@ -12,6 +13,9 @@ use Rattle.fragment_text.specs.declared.join_end.JoinEnd.TheVariants as joins
 use Rattle.fragment_text.specs.declared.split_end.SplitEnd.TheVariants as splits
 use Rattle.schedule_replay.specs.Replaying.{EndsEarly, PrintsAll, PrintsUpTo}
 use Rattle.schedule_replay.specs.declared.replay_end.ReplayEnd.TheVariants as replays
+use Rattle.storm_run.specs.Storms.{StormEnds}
+use Rattle.storm_run.specs.declared.storm_end.StormEnd.{StormEnd}
+use Rattle.storm_run.specs.declared.storm_end.StormEnd.TheVariants as storms
 use Rattle.craft.specs.Asks.{Asks}
 use Rattle.craft.specs.declared.status.Status.{Status}
 use Rattle.craft.specs.declared.status.Status.TheVariants.{Done, BadSchedule, TooFew, SourceFault, SinkFault, NoMemory}
@@ -76,6 +80,20 @@ Joins shape before after SinkFault = JoinEnds shape before after joins.SinkFault
 Joins shape before after NoMemory = JoinEnds shape before after joins.NoMemory
 Joins shape before after _ = ⊥
 
+-- ---- storm
+
+abbrev pub EndsAs : StormCommand → Streams → Streams → StormEnd → Type 0
+EndsAs storm before after end =
+    StormEnds storm.shape storm.seed storm.count before.taken after.taken before.sink_faults after.sink_faults end
+
+-- what a status of `storm` means: the tally of its lines' run was written; or a first part of it, and the sink failed; or memory was
+-- wanting, and nothing was written
+abbrev pub Storms : StormCommand → Streams → Streams → Status → Type 0
+Storms storm before after Done = EndsAs storm before after storms.End
+Storms storm before after SinkFault = EndsAs storm before after storms.SinkFault
+Storms storm before after NoMemory = EndsAs storm before after storms.NoMemory
+Storms storm before after _ = ⊥
+
 -- ---- any command
 
 -- nothing was sent or taken, and the clock wasn't read
@@ -92,6 +110,8 @@ Answers (Replay shape) before after status = Replays shape before.streams after.
 Answers (Split shape) before after status = Splits shape before.streams after.streams status × StaysAlone before after
 Answers (Join shape) before after status = Joins shape before.streams after.streams status × StaysAlone before after
 Answers (Ask ask) before after status = Asks ask before.streams after.streams before.link after.link status × ReadsNothing before after
+Answers (Storm storm) before after status =
+    Storms storm before.streams after.streams status × StaysAlone before after × ReadsNothing before after
 Answers (Node node) before after status = Unit {0}
 
 -- memory was wanting to read the words, and nothing was done

@@ -11,6 +11,8 @@ use Rattle.craft_client.specs.declared.client_fault.ClientFault.{ClientFault}
 use Rattle.craft_client.specs.declared.client_fault.ClientFault.TheVariants as asking
 use Rattle.net_node.specs.declared.serve_end.ServeEnd.{ServeEnd}
 use Rattle.net_node.specs.declared.serve_end.ServeEnd.TheVariants as serving
+use Rattle.storm_run.specs.declared.storm_end.StormEnd.{StormEnd}
+use Rattle.storm_run.specs.declared.storm_end.StormEnd.TheVariants as storms
 use Rattle.synced_log.specs.Faults.{owner_text}
 use Rattle.synced_log.specs.declared.fault.OpenFault.{OpenFault}
 use Rattle.synced_log.specs.declared.fault.OpenFault.TheVariants as opening
@@ -85,6 +87,12 @@ status_of_join (joins.TooFew index) = TooFew index
 status_of_join joins.SourceFault = SourceFault
 status_of_join joins.SinkFault = SinkFault
 status_of_join joins.NoMemory = NoMemory
+
+-- what a storm's end is to the program
+abbrev pub status_of_storm : StormEnd → Status
+status_of_storm storms.End = Done
+status_of_storm storms.SinkFault = SinkFault
+status_of_storm storms.NoMemory = NoMemory
 
 -- what a fault of opening a journal is to the program: it has one disk
 abbrev pub status_of_opening : OpenFault → Status

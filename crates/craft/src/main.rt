@@ -12,6 +12,8 @@ mod node;
 mod paths;
 mod status;
 #[cfg(test)]
+mod storm_tests;
+#[cfg(test)]
 mod tests;
 mod top;
 
@@ -21,6 +23,7 @@ use craft_edge::{MemClock, MemLink};
 use paths::{paths_of, place_of};
 use status::{Status, code_of, text_of};
 use std::env;
+use std::fs::File;
 use std::io::{BufReader, ErrorKind, Write, writer};
 use std::net::UdpSocket;
 use std::process::ExitCode;
@@ -33,6 +36,7 @@ usage: craft node F k me seed turns PATH place0 .. place2F
        craft replay F k < SCHEDULE
        craft split F k < VALUE
        craft join F k < FRAGMENTS
+       craft storm F k seed count
        craft --help
        craft --version
 
@@ -72,6 +76,11 @@ reads such lines, the value line and any k fragments or more, and writes the
 value. Nothing has a checksum: join can't tell a damaged fragment from a good
 one, and then writes a wrong value with status 0.
 
+storm runs a schedule of count events, 1 to 100,000, that seed makes, 0 to
+2^64-1, and prints six numbers: the events run, the peer frames sent, the
+replies, how often a member told that it leads, the greatest commit index on any
+disk, and how often one told of a cut. The same words give the same lines.
+
 Exit status: 0 done, 2 bad words, 3 bad input, at the line that is told, 4 the
 journal is bad, at the byte that is told, 5 it is another member's, 6 the input
 could not be read, 7 the output could not be written (it is full, or its reader
@@ -85,6 +94,7 @@ example: printf 'tick 0 0\\ntick 0 0\\ntick 0 0\\n' | craft replay 1 1
 const VERSION: &str = "craft 0.1.0, for rattle-kit-13f\n";
 
 fn main(rt: HostRuntime) -> ExitCode {
+    let _places = [hold_place(&rt), hold_place(&rt), hold_place(&rt)];
     let status = match command_words(&rt) {
         Ok(words) => answer(&rt, &words),
         Err(status) => status,
@@ -93,6 +103,12 @@ fn main(rt: HostRuntime) -> ExitCode {
         let _ = rt.stderr().write_all(text.as_bytes());
     }
     ExitCode::from(code_of(&status))
+}
+
+/// Opens a folder, which can be neither read nor written. So a standard stream that is closed stays one that fails: the system would
+/// put the next file that is opened in its place, and a member's lines would go into its journal.
+fn hold_place(rt: &HostRuntime) -> Option<File> {
+    File::open(rt, "/").ok()
 }
 
 /// The words of the command line without the program's name.

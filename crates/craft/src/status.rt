@@ -1,6 +1,6 @@
 //! How the program ends, and what it says of it.
 ghost use Rattle.std.specs.Prelude.{◌≡◌, IfOk};
-ghost use Rattle.craft.specs.Statuses.{code_of_status, text_of_status, bad_journal_line, bad_schedule_line, no_answer_line, status_of_asking, status_of_end, status_of_join, status_of_opening, status_of_serving, status_of_split, too_few_line, wrong_owner_line};
+ghost use Rattle.craft.specs.Statuses.{code_of_status, text_of_status, bad_journal_line, bad_schedule_line, no_answer_line, status_of_asking, status_of_end, status_of_join, status_of_opening, status_of_serving, status_of_split, status_of_storm, too_few_line, wrong_owner_line};
 
 use craft_base::{Blob, OutOfMemory};
 use craft_client::ClientFault;
@@ -8,6 +8,7 @@ use fragment_text::{JoinEnd, SplitEnd};
 use net_node::ServeEnd;
 use schedule_replay::ReplayEnd;
 use std::alloc::Global;
+use storm_run::StormEnd;
 use synced_log::{OpenFault, Owner};
 
 /// How the program ends.
@@ -78,6 +79,18 @@ impl From<JoinEnd> for Status {
             JoinEnd::SourceFault => Status::SourceFault,
             JoinEnd::SinkFault => Status::SinkFault,
             JoinEnd::NoMemory => Status::NoMemory,
+        }
+    }
+}
+
+impl From<StormEnd> for Status {
+    ghost from_gives = { λ end status. status ≡ status_of_storm end };
+
+    fn from(end: StormEnd) -> Self {
+        match end {
+            StormEnd::End => Status::Done,
+            StormEnd::SinkFault => Status::SinkFault,
+            StormEnd::NoMemory => Status::NoMemory,
         }
     }
 }

@@ -45,7 +45,12 @@ fn run_over(
 }
 
 /// The same where nothing fails: what is read and what is written goes in pieces of at most that many bytes.
-fn run(alloc: Global, line: &str, input: &[u8], piece: usize) -> Result<(Status, Vec<u8>), Fail>
+pub(crate) fn run(
+    alloc: Global,
+    line: &str,
+    input: &[u8],
+    piece: usize,
+) -> Result<(Status, Vec<u8>), Fail>
     requires { 0 < piece }
 {
     let src = MemSource::new(input.to_vec(alloc)?, piece, Vec::new(alloc));

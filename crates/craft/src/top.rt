@@ -18,12 +18,14 @@ use craft_edge::{Clock, Disk, Link, Sink, Source};
 use fragment_text::{join, split};
 use schedule_replay::replay;
 use std::alloc::Global;
+use storm_run::storm;
 
 /// Does what the words ask for, and hands the disks back. Each command is for a cluster that survives F failures and needs k
 /// fragments of a value. `replay F k` runs the schedule that the source gives, and writes the text of the run to the sink.
 /// `node F k me seed turns path place0 ..` is a member of a cluster: it opens the journal on its disk and serves, by the link and
 /// the clock. `ask F k client seq op key value place0 ..` asks a cluster by the link, and writes the line of the reply. `split F k`
-/// writes a value's fragments as text. `join F k` reads such a text and writes the value.
+/// writes a value's fragments as text. `join F k` reads such a text and writes the value. `storm F k seed count` runs the schedule that
+/// a number makes, and writes what it came to in numbers.
 pub fn craft<S: Source, O: Sink, D: Disk, L: Link, C: Clock>(
     alloc: Global,
     words: &[String],
@@ -100,6 +102,10 @@ fn run<S: Source, O: Sink, D: Disk, L: Link, C: Clock>(
         Command::Ask(ask) => (run_ask(alloc, ask, out, link), disks),
         Command::Split(shape) => (Status::from(split(alloc, shape, src, out)), disks),
         Command::Join(shape) => (Status::from(join(alloc, shape, src, out)), disks),
+        Command::Storm(made) => {
+            let end = storm(alloc, &made.shape, made.seed, made.count, out);
+            (Status::from(end), disks)
+        }
     }
 }
 

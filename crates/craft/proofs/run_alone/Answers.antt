@@ -1,4 +1,4 @@
-use Rattle.std.proofs.Common.{◌≡◌, ◌∙◌, length, ap, sym, map, string_bytes}
+use Rattle.std.proofs.Common.{◌∙◌, length, ap, sym, map, string_bytes}
 use Rattle.command_words.specs.Words.{path_in, plan}
 use Rattle.craft.proofs.Planned.{no_path}
 use Rattle.craft.proofs.run_alone.Goals as goal

@@ -1,4 +1,4 @@
-use Rattle.std.proofs.Common.{◌≡◌, refl}
+use Rattle.std.proofs.Common.{refl}
 use Rattle.net_node.specs.Serving.{CanLeave}
 use Rattle.craft.specs.Serves.{Files}
 use Rattle.craft.proofs.Serving.{served}

@@ -1,4 +1,4 @@
-use Rattle.std.proofs.Common.{◌≡◌, None, refl}
+use Rattle.std.proofs.Common.{None, refl}
 use Rattle.craft_client.specs.Telling.{LinkNow}
 use Rattle.craft_edge.specs.Streams.{Streams}
 use Rattle.net_node.specs.Ends.{FaultCounts}
