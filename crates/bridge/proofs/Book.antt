@@ -2,6 +2,7 @@
 pub mod Standing
 pub mod Kept
 pub mod Cutting
+pub mod Completing
 pub mod Taken
 pub mod Plain
 pub mod Sent

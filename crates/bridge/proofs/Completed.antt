@@ -37,7 +37,7 @@ complete_whole (entry ∷ log) zero bytes (suc k) w = w
 complete_whole (entry ∷ log) (suc position) bytes zero w = w
 complete_whole (entry ∷ log) (suc position) bytes (suc k) w = complete_whole log position bytes k w
 
-complete_term_at :
+pub complete_term_at :
     (log : List Entry) (position : ℕ) (bytes : List ℕ) (i : ℕ) →
     term_at (log_seen (complete_at log position bytes)) i ≡ term_at (log_seen log) i
 unfolding term_at

@@ -12,7 +12,7 @@ use Rattle.protocol.specs.Moves.{Moves, Reached}
 use Rattle.protocol.proofs.Fronts.{commits_are_decided, commits_grow}
 use Rattle.protocol.proofs.Logs.{agree_none}
 use Rattle.bridge.specs.Agreement.{WorldAgrees}
-use Rattle.bridge.specs.Traced.{AllStand}
+use Rattle.bridge.specs.Traced.{AllStand, Holder, holder}
 use Rattle.bridge.specs.Views.{log_seen}
 use Rattle.bridge.proofs.Views.{length_seen}
 
@@ -61,7 +61,8 @@ furthest_is P d (m ∷ members) p each =
 pub record IsCommitted (shape : Shape) (h : protocol.History) (w : World) (d : Durable) : Type 0 where
   pub front : IsDecidedFront h (log_seen d.log) d.commit
   pub within : d.commit ≤ length d.log
-  pub stand : AllStand w.book 1 d.log
+  pub at : Holder
+  pub stand : AllStand at w.book 1 d.log
   pub later :
       (g : protocol.History) (now : World) → Moves shape.faults h g → WorldAgrees shape g now → d.commit ≤ (furthest born now.members).commit
 
@@ -77,6 +78,7 @@ module _ {shape : Shape} {h : protocol.History} {w : World} (reached : Reached s
       record {
         front = front;
         within = omega (arith, left, seen);
+        at = holder shape k;
         stand = a.logs k m here;
         later = λ g now run agrees.
             let member : k < members_of shape = node.within in
@@ -91,6 +93,7 @@ module _ {shape : Shape} {h : protocol.History} {w : World} (reached : Reached s
   none_committed = record {
     front = (0, omega arith, agree_none [] (h.led 0));
     within = omega arith;
+    at = holder shape 0;
     stand = tt;
     later = λ g now run agrees. omega arith;
   }

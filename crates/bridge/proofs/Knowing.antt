@@ -10,7 +10,7 @@ use Rattle.craft_base.specs.declared.command.Entry.{Entry}
 use Rattle.craft_base.specs.declared.command.Held.{Held}
 use Rattle.craft_base.specs.declared.command.Held.TheVariants as helds
 use Rattle.entry_frames.specs.Logs as node
-use Rattle.world_model.specs.Quorums.{form_of, is_enough, is_held_whole, is_whole, known_form}
+use Rattle.world_model.specs.Quorums.{form_of, is_enough, is_held, is_held_whole, is_whole, known_form}
 use Rattle.protocol.specs.Counting.{count}
 use Rattle.protocol.specs.History as protocol
 use Rattle.protocol.specs.Logs.{whole_at}
@@ -171,4 +171,7 @@ module _
   -- what the rule takes for enough is a quorum
   pub enough_counted :
       is_enough shape me log heard index ≡ true → Quorum shape.faults (λ j. h.held term j index) (reaches h term index) shape.need
-  enough_counted enough = quorum_counted is_held_whole refl (inl (leb-true _ _ enough))
+  enough_counted enough = quorum_counted is_held refl (elim (or_cases _ _ enough) [
+    | inl wholes ↦ inl (leb-true _ _ wholes)
+    | inr any ↦ inr (leb-true _ _ any)
+  ])

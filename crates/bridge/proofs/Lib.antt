@@ -24,5 +24,6 @@ pub mod Leaders
 pub mod Growing
 pub mod Replies
 pub mod Furthest
+pub mod Rebuilt
 pub mod Safe
 pub mod Examples

@@ -17,7 +17,7 @@ use Rattle.protocol.specs.History as protocol
 use Rattle.protocol.specs.Moves.{Reached}
 use Rattle.bridge.specs.Agreement.{MessageAgrees, NodeAgrees, WorldAgrees}
 use Rattle.bridge.specs.Bridges.{OwnMoves, TurnBridged, WorldBridged}
-use Rattle.bridge.specs.Traced.{AllStand, CommitAgrees, MessageStands, ProposalAgrees, RemovalAgrees}
+use Rattle.bridge.specs.Traced.{AllStand, CommitAgrees, MessageStands, ProposalAgrees, RemovalAgrees, holder}
 use Rattle.bridge.proofs.Book.Kept.{commits_stay, proposals_stay, removals_stay}
 use Rattle.bridge.proofs.Book.Standing.{message_more, stand_more}
 use Rattle.bridge.proofs.Facts.{messages_stay, node_stays}
@@ -69,8 +69,8 @@ module _
             proposals = proposals_stay grows w.book a.proposals;
             removals = removals_stay grows w.cuts a.removals;
             commits = commits_stay grows w.commits a.commits;
-            logs = each_after (λ k it. AllStand w.book 1 it.durable.log) w.members me m next here
-                (subst (AllStand w.book 1) kept (a.logs me m here)) (λ k it apart before. a.logs k it before);
+            logs = each_after (λ k it. AllStand (holder shape k) w.book 1 it.durable.log) w.members me m next here
+                (subst (AllStand (holder shape me) w.book 1) kept (a.logs me m here)) (λ k it apart before. a.logs k it before);
             stand = a.stand;
           };
         }
@@ -113,10 +113,10 @@ module _
             removals = All-append (RemovalAgrees b.history) w.cuts _ (removals_stay grows w.cuts a.removals)
                 t.removals;
             commits = All-append (CommitAgrees b.history) w.commits _ (commits_stay grows w.commits a.commits) t.commits;
-            logs = each_after (λ k it. AllStand book 1 it.durable.log) w.members me m (running_as act.node) here t.log
-                (λ k it apart before. stand_more w.book _ 1 it.durable.log (a.logs k it before));
-            stand = All-append (MessageStands book) w.sent _
-                (All-weaker (MessageStands w.book) (MessageStands book) (message_more w.book _) w.sent a.stand)
-                (All-same (MessageStands book) _ act.sends (sent_among-turned n act) t.sends);
+            logs = each_after (λ k it. AllStand (holder shape k) book 1 it.durable.log) w.members me m (running_as act.node) here t.log
+                (λ k it apart before. stand_more (holder shape k) w.book _ 1 it.durable.log (a.logs k it before));
+            stand = All-append (MessageStands shape book) w.sent _
+                (All-weaker (MessageStands shape w.book) (MessageStands shape book) (message_more shape w.book _) w.sent a.stand)
+                (All-same (MessageStands shape book) _ act.sends (sent_among-turned n act) t.sends);
           };
         }

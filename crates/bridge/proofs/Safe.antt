@@ -8,7 +8,7 @@ use Rattle.craft_base.specs.Shape.{Shape}
 use Rattle.craft_base.specs.declared.command.Entry.{Entry}
 use Rattle.entry_frames.specs.Durable.{Durable, born}
 use Rattle.entry_frames.specs.Logs as node
-use Rattle.world_model.specs.Safety.{HoldsCommitted, IsFront, IsRun, IsSafe, RemovesUncommitted, StaysCommitted, command_in, commands_of, committed, furthest}
+use Rattle.world_model.specs.Safety.{HoldsCommitted, IsFront, IsRun, IsSafe, RemovesUncommitted, StaysCommitted, command_in, commands_of, committed, furthest, StandsFor}
 use Rattle.world_model.specs.Traces.{Proposal}
 use Rattle.world_model.specs.World.{World, run, run_from, start}
 use Rattle.world_model.specs.declared.line.Line.{Line}
@@ -19,12 +19,13 @@ use Rattle.protocol.specs.Moves.{Moves, Reached, None_yet}
 use Rattle.protocol.proofs.Fronts.{cut_stays_undecided, fronts_agree}
 use Rattle.bridge.specs.Agreement.{WorldAgrees}
 use Rattle.bridge.specs.Bridges.{RunBridged}
-use Rattle.bridge.specs.Traced.{AllStand, CommitAgrees, RemovalAgrees}
+use Rattle.bridge.specs.Traced.{AllStand, CommitAgrees, Holder, RemovalAgrees, holder}
 use Rattle.bridge.specs.Views.{log_seen}
 use Rattle.bridge.proofs.Book.Standing.{command_in_more, stand_place, stand_take}
 use Rattle.bridge.proofs.Furthest.{IsCommitted, at_position, furthest_committed, furthest_each, member_committed}
 use Rattle.bridge.proofs.Growing.{HasMore, run_grows}
 use Rattle.bridge.proofs.Leaders.{one_leader_a_term}
+use Rattle.bridge.proofs.Rebuilt.{rebuilds_committed}
 use Rattle.bridge.proofs.Replies.Lists.{is_in, taken_there}
 use Rattle.bridge.proofs.Replies.Runs.{answers_as_one_map, run_answers, start_answers}
 use Rattle.bridge.proofs.Runs.{history_reached, moves_between, runs_are_bridged}
@@ -65,10 +66,15 @@ module _ {shape : Shape} {h : protocol.History} {w : World} (reached : Reached s
       let theirs = at_position d.log place (omega (arith, lt, le, most.within)) in
       let same : theirs.0.term ≡ own.0.term =
       sym (term_there d.log place theirs.0 theirs.1) ∙ sym (agree.same (suc place) (omega (arith, lt))) ∙ term_there m.durable.log place own.0 own.1 in
-      let stands = stand_place w.book 1 m.durable.log place own.0 mine.stand own.1 in
+      let stands = stand_place (holder shape me) w.book 1 m.durable.log place own.0 (a.logs me m here) own.1 in
       let listed : slice_get (committed w) place ≡ Some (command_in w.book theirs.0.term (1 + place)) =
-      commands_there w.book 1 (take d.commit d.log) place theirs.0 (taken_there d.commit d.log place (omega (arith, lt, le)) ∙ theirs.1) in
-      (own.0, stands.0, own.1, listed ∙ ap (λ t. Some (command_in w.book t (1 + place))) same ∙ ap Some stands.1, stands.2)
+      commands_there w.book 1 (take d.commit d.log) place theirs.0 (taken_there d.commit d.log place (omega (arith, lt, le)) ∙ theirs.1) in (
+        own.0,
+        stands.0,
+        own.1,
+        listed ∙ ap (λ t. Some (command_in w.book t (1 + place))) same ∙ ap Some stands.1,
+        subst (λ s. StandsFor s.need me own.0 stands.0) (sym a.of_shape) stands.2,
+      )
 
   -- ---- what is removed
 
@@ -100,13 +106,13 @@ module _ {shape : Shape} {h : protocol.History} {w : World} (reached : Reached s
 
 -- of entries that stand, the commands in a book are a front of those in a book that grew, for a log that has the same entries and more
 commands_front :
-    (book more : List Proposal) (index : ℕ) (xs ys : List Entry) → AllStand book index xs → length xs ≤ length ys →
+    (at : Holder) (book more : List Proposal) (index : ℕ) (xs ys : List Entry) → AllStand at book index xs → length xs ≤ length ys →
     ((place : ℕ) (x y : Entry) → slice_get xs place ≡ Some x → slice_get ys place ≡ Some y → x.term ≡ y.term) →
     IsFront (commands_of book index xs) (commands_of (book ++ more) index ys)
-commands_front book more index [] ys stand le same = (commands_of (book ++ more) index ys, refl)
-commands_front book more index (x ∷ xs) [] stand le same = absurd (omega (arith, le))
-commands_front book more index (x ∷ xs) (y ∷ ys) stand le same =
-    let rest = commands_front book more (index + 1) xs ys stand.1 (omega (arith, le)) (λ place. same (suc place)) in
+commands_front at book more index [] ys stand le same = (commands_of (book ++ more) index ys, refl)
+commands_front at book more index (x ∷ xs) [] stand le same = absurd (omega (arith, le))
+commands_front at book more index (x ∷ xs) (y ∷ ys) stand le same =
+    let rest = commands_front at book more (index + 1) xs ys stand.1 (omega (arith, le)) (λ place. same (suc place)) in
     let old : command_in book x.term index ≡ Some stand.0.0 = stand.0.1 in
     let new : command_in (book ++ more) y.term index ≡ Some stand.0.0 =
     ap (λ t. command_in (book ++ more) t index) (sym (same zero x y refl refl)) ∙ command_in_more book more x.term index stand.0.0 old in
@@ -134,7 +140,7 @@ module _
       ∙ agree.same (suc place) (omega (arith, lt))
       ∙ term_there e.log place y (sym (taken_there e.commit e.log place (omega (arith, lt, le))) ∙ also) in
       subst (λ book. IsFront (commands_of w.book 1 (take d.commit d.log)) (commands_of book 1 (take e.commit e.log))) (sym grown.1)
-      (commands_front w.book grown.0 1 (take d.commit d.log) (take e.commit e.log) (stand_take w.book 1 d.commit d.log old.stand)
+      (commands_front old.at w.book grown.0 1 (take d.commit d.log) (take e.commit e.log) (stand_take old.at w.book 1 d.commit d.log old.stand)
       (omega (arith, long, more_long, le)) same)
 
 module _ {shape : Shape} {events : List Line} (r : RunBridged shape protocol.start (start shape) events) where
@@ -163,6 +169,7 @@ every_run_is_safe shape events is =
     record {
       one_list = holds_committed reached agrees;
       stays = stays_committed r;
+      rebuilds = rebuilds_committed reached agrees;
       removes = removes_uncommitted reached agrees;
       replies =
           answers_as_one_map reached agrees

@@ -6,7 +6,7 @@ use Rattle.craft_base.specs.Shape.{Shape, members_of}
 use Rattle.world_model.specs.World as world
 use Rattle.protocol.specs.History as protocol
 use Rattle.bridge.specs.Agreement.{MessageAgrees, NodeAgrees, WorldAgrees}
-use Rattle.bridge.specs.Traced.{AllStand, CommitAgrees, MessageStands, ProposalAgrees, RemovalAgrees}
+use Rattle.bridge.specs.Traced.{AllStand, CommitAgrees, MessageStands, ProposalAgrees, RemovalAgrees, holder}
 use Rattle.world_model.proofs.Positions.{repeated_at}
 
 newborn_agrees : (shape : Shape) (me : ℕ) → me < members_of shape → NodeAgrees shape protocol.start me (world.node_of shape me world.newborn)
@@ -36,7 +36,7 @@ start_agrees shape = record {
   removals = All-nil (RemovalAgrees protocol.start);
   commits = All-nil (CommitAgrees protocol.start);
   logs = λ me m e.
-      let none : AllStand [] 1 world.newborn.durable.log = tt in
-      subst (λ it. AllStand [] 1 it.durable.log) (repeated_at (members_of shape) world.newborn me m e).1 none;
-  stand = All-nil (MessageStands []);
+      let none : AllStand (holder shape me) [] 1 world.newborn.durable.log = tt in
+      subst (λ it. AllStand (holder shape me) [] 1 it.durable.log) (repeated_at (members_of shape) world.newborn me m e).1 none;
+  stand = All-nil (MessageStands shape []);
 }

@@ -19,7 +19,7 @@ use Rattle.protocol.specs.Moves.{Reached, Restart, None_yet, after}
 use Rattle.protocol.proofs.Runs.{moves_trans}
 use Rattle.bridge.specs.Agreement.{HeardAgrees, MessageAgrees, NodeAgrees, WorldAgrees}
 use Rattle.bridge.specs.Bridges.{TurnBridged, WorldBridged}
-use Rattle.bridge.specs.Traced.{AllStand, MessageStands}
+use Rattle.bridge.specs.Traced.{AllStand, MessageStands, holder}
 use Rattle.bridge.proofs.Book.Called.{call_turned}
 use Rattle.bridge.proofs.Book.Turn.{message_turned, tick_turned}
 use Rattle.bridge.proofs.Members.{changed_bridged, turned_bridged}
@@ -29,7 +29,7 @@ use Rattle.bridge.proofs.Steps.{own_none}
 -- what an event makes of a node that agrees is bridged and traced
 abbrev IsTold : Shape → protocol.History → List Proposal → Aim → Type 0
 IsTold shape g book aim =
-    (n : Node) → NodeAgrees shape g aim.member n → AllStand book 1 n.durable.log →
+    (n : Node) → NodeAgrees shape g aim.member n → AllStand (holder shape aim.member) book 1 n.durable.log →
     TurnBridged shape g book aim.member n.durable (turns.act_of aim.event n)
 
 module _
@@ -52,8 +52,8 @@ module _
       delivered (Some m) here is_aim =
           let at_frame : MessageAgrees g (get_or w.sent (frame - 1) m) = a.sent (frame - 1) m (slice_get_within w.sent (frame - 1) m here) in
           let told : MessageAgrees g m = subst (MessageAgrees g) (get_or_from_slice_get w.sent (frame - 1) m m here) at_frame in
-          let stands_at : MessageStands w.book (get_or w.sent (frame - 1) m) = a.stand (frame - 1) m (slice_get_within w.sent (frame - 1) m here) in
-          let stands : MessageStands w.book m = subst (MessageStands w.book) (get_or_from_slice_get w.sent (frame - 1) m m here) stands_at in
+          let stands_at : MessageStands shape w.book (get_or w.sent (frame - 1) m) = a.stand (frame - 1) m (slice_get_within w.sent (frame - 1) m here) in
+          let stands : MessageStands shape w.book m = subst (MessageStands shape w.book) (get_or_from_slice_get w.sent (frame - 1) m m here) stands_at in
           subst (IsTold shape g w.book) (same_Some _ _ is_aim)
           (λ n agrees stand. message_turned m reached is agrees told stand a.proposals stands)
 
@@ -112,7 +112,7 @@ module _
 -- what a bridged world says and loses leaves the rest bridged
 unsaid_bridged :
     {shape : Shape} {g : protocol.History} (w now : World) (more : List Message) → now.sent ≡ w.sent ++ more → WorldBridged shape g now → WorldBridged shape g (unsaid w now)
-unsaid_bridged w now more is b = record {
+unsaid_bridged {shape = shape} w now more is b = record {
   history = b.history;
   moves = b.moves;
   agrees = record {
@@ -124,7 +124,7 @@ unsaid_bridged w now more is b = record {
     removals = b.agrees.removals;
     commits = b.agrees.commits;
     logs = b.agrees.logs;
-    stand = said_before (MessageStands now.book) w now more is b.agrees.stand;
+    stand = said_before (MessageStands shape now.book) w now more is b.agrees.stand;
   };
 }
 

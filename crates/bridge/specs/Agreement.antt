@@ -15,7 +15,7 @@ use Rattle.world_model.specs.World.{Member, World, node_of}
 use Rattle.protocol.specs.History.{History}
 use Rattle.protocol.specs.Logs.{last_term, term_at}
 use Rattle.protocol.specs.Words.{need_at}
-use Rattle.bridge.specs.Traced.{AllStand, CommitAgrees, MessageStands, ProposalAgrees, RemovalAgrees}
+use Rattle.bridge.specs.Traced.{AllStand, CommitAgrees, MessageStands, ProposalAgrees, RemovalAgrees, holder}
 use Rattle.bridge.specs.Views.{role_seen, log_seen}
 
 -- a candidate that asks for votes stood in the term, with a log that ends in that term and at that index
@@ -111,5 +111,5 @@ pub record WorldAgrees (shape : Shape) (h : History) (w : World) : Type 0 where
   pub proposals : All (ProposalAgrees h) w.book
   pub removals : All (RemovalAgrees h) w.cuts
   pub commits : All (CommitAgrees h) w.commits
-  pub logs : (me : ℕ) (m : Member) → slice_get w.members me ≡ Some m → AllStand w.book 1 m.durable.log
-  pub stand : All (MessageStands w.book) w.sent
+  pub logs : (me : ℕ) (m : Member) → slice_get w.members me ≡ Some m → AllStand (holder shape me) w.book 1 m.durable.log
+  pub stand : All (MessageStands shape w.book) w.sent

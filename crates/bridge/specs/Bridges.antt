@@ -9,7 +9,7 @@ use Rattle.world_model.specs.declared.line.Line.{Line}
 use Rattle.protocol.specs.History.{History}
 use Rattle.protocol.specs.Moves.{Moves}
 use Rattle.protocol.specs.Growth.{Untouched}
-use Rattle.bridge.specs.Traced.{AllStand, CommitAgrees, MessageStands, ProposalAgrees, RemovalAgrees}
+use Rattle.bridge.specs.Traced.{AllStand, CommitAgrees, MessageStands, ProposalAgrees, RemovalAgrees, holder}
 use Rattle.bridge.specs.Agreement.{MessageAgrees, NodeAgrees, WorldAgrees}
 
 -- moves of one member alone, from one history to another
@@ -26,17 +26,17 @@ pub record ActBridged (shape : Shape) (g : History) (member : ℕ) (act : Act) :
 
 -- What an act of a member that had this durable state proposes, removes and commits agrees with the history. Once what it proposes is
 -- in the book, each entry of its log stands there, and each that it sends.
-pub record ActTraced (h : History) (book : List Proposal) (event member : ℕ) (before : Durable) (act : Act) : Type 0 where
+pub record ActTraced (shape : Shape) (h : History) (book : List Proposal) (event member : ℕ) (before : Durable) (act : Act) : Type 0 where
   pub proposals : All (ProposalAgrees h) (proposals_in event act.node.volatile.role before act.records)
   pub removals : All (RemovalAgrees h) (removals_in event member before act.records)
   pub commits : All (CommitAgrees h) (leader_commits_in event act.node.volatile.role before act.records)
-  pub log : AllStand (book ++ proposals_in event act.node.volatile.role before act.records) 1 act.node.durable.log
-  pub sends : All (MessageStands (book ++ proposals_in event act.node.volatile.role before act.records)) act.sends
+  pub log : AllStand (holder shape member) (book ++ proposals_in event act.node.volatile.role before act.records) 1 act.node.durable.log
+  pub sends : All (MessageStands shape (book ++ proposals_in event act.node.volatile.role before act.records)) act.sends
 
 -- an act that is bridged and, whatever the number of its event, traced
 pub record TurnBridged (shape : Shape) (g : History) (book : List Proposal) (member : ℕ) (before : Durable) (act : Act) : Type 0 where
   pub bridged : ActBridged shape g member act
-  pub traced : (event : ℕ) → ActTraced bridged.history book event member before act
+  pub traced : (event : ℕ) → ActTraced shape bridged.history book event member before act
 
 -- from that history there are moves after which the world agrees
 pub record WorldBridged (shape : Shape) (g : History) (w : World) : Type 0 where

@@ -1,5 +1,6 @@
 -- When what a run keeps lists of agrees with a history, and when entries stand in the book of what was proposed.
 use Rattle.std.specs.Prelude.{◌≡◌, ℕ, ◌+◌, ◌<◌, ◌≤◌, List, [], ◌∷◌, length, Some, slice_get}
+use Rattle.craft_base.specs.Shape.{Shape}
 use Rattle.craft_base.specs.declared.command.Entry.{Entry}
 use Rattle.entry_frames.specs.declared.message.Message.{Message}
 use Rattle.entry_frames.specs.declared.message.Message.TheVariants as messages
@@ -32,20 +33,29 @@ CommitAgrees h c = (length c.log ≤ h.decided c.term) × Agree (log_seen c.log)
 
 -- ---- the book
 
--- the book has a command for an entry's term and an index, and the entry is of its term and asks for it, with the whole value
-abbrev pub StandsAt : List Proposal → (index : ℕ) → Entry → Type 0
-StandsAt book index entry = (command : Command) × (command_in book entry.term index ≡ Some command) × StandsFor entry command
+-- a member that holds entries, and how many fragments of a value rebuild it
+pub record Holder : Type 0 where
+  pub need : ℕ
+  pub member : ℕ
+
+abbrev pub holder : Shape → ℕ → Holder
+holder shape member = record { need = shape.need; member = member }
+
+-- the book has a command for an entry's term and an index, and the holder's entry stands for it
+abbrev pub StandsAt : Holder → List Proposal → (index : ℕ) → Entry → Type 0
+StandsAt at book index entry =
+    (command : Command) × (command_in book entry.term index ≡ Some command) × StandsFor at.need at.member entry command
 
 -- so does each of these entries, the first of which has that index
-abbrev pub AllStand : List Proposal → (index : ℕ) → List Entry → Type 0
-AllStand book index [] = Unit {0}
-AllStand book index (entry ∷ entries) = StandsAt book index entry × AllStand book (index + 1) entries
+abbrev pub AllStand : Holder → List Proposal → (index : ℕ) → List Entry → Type 0
+AllStand at book index [] = Unit {0}
+AllStand at book index (entry ∷ entries) = StandsAt at book index entry × AllStand at book (index + 1) entries
 
--- so does each entry that a message carries
-abbrev pub PeerStands : List Proposal → Peer → Type 0
-PeerStands book (peers.Append prev prev_term commit entries) = AllStand book (prev + 1) entries
-PeerStands book _ = Unit {0}
+-- so does each entry that a message carries, at whom it goes to
+abbrev pub PeerStands : Holder → List Proposal → Peer → Type 0
+PeerStands at book (peers.Append prev prev_term commit entries) = AllStand at book (prev + 1) entries
+PeerStands at book _ = Unit {0}
 
-abbrev pub MessageStands : List Proposal → Message → Type 0
-MessageStands book (messages.Peer sender receiver term body) = PeerStands book body
-MessageStands book _ = Unit {0}
+abbrev pub MessageStands : Shape → List Proposal → Message → Type 0
+MessageStands shape book (messages.Peer sender receiver term body) = PeerStands (holder shape receiver) book body
+MessageStands shape book _ = Unit {0}

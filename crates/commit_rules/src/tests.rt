@@ -130,6 +130,22 @@ fn the_leaders_own_log_counts_once(rt: HostRuntime) -> Result<(), Fail> {
     Ok(())
 }
 
+// With k = 2 an entry that others hold as parts needs all of three members, and four of five. The leader's own form counts too.
+#[test]
+fn parts_need_as_many_more_members(rt: HostRuntime) -> Result<(), Fail> {
+    let alloc = rt.alloc();
+    let parts = [(1, 0, 1, 0), (2, 0, 1, 0), (3, 0, 1, 0)];
+    let (one, two) = ([(1, 0, 1, 0)], [(1, 0, 1, 0), (2, 0, 1, 0)]);
+    assert_eq!(rt; committed(alloc, 1, &[(4, true)], 0, &one, 4)?, 0);
+    assert_eq!(rt; committed(alloc, 1, &[(4, true)], 0, &two, 4)?, 1);
+    assert_eq!(rt; committed(alloc, 2, &[(4, true)], 0, &two, 4)?, 0);
+    assert_eq!(rt; committed(alloc, 2, &[(4, true)], 0, &parts, 4)?, 1);
+    assert_eq!(rt; committed(alloc, 2, &[(4, false)], 0, &parts, 4)?, 1);
+    let mixed = [(1, 0, 1, 1), (2, 0, 1, 0)];
+    assert_eq!(rt; committed(alloc, 2, &[(4, true)], 0, &mixed, 4)?, 0);
+    Ok(())
+}
+
 #[test]
 fn nothing_commits_past_the_last_entry(rt: HostRuntime) -> Result<(), Fail> {
     let alloc = rt.alloc();

@@ -1,17 +1,19 @@
 -- What `node` answers, by how its journal was opened and how its run ended.
-use Rattle.std.proofs.Common.{◌≡◌, ◌≢◌, ◌≤◌, ℕ, List, refl, inl, inr, subst, sym, arith}
-use Rattle.std.specs.Prelude.{IfSome}
+use Rattle.std.proofs.Common.{◌≡◌, ◌≢◌, ◌≤◌, ◌⊎◌, ⊎_elim, ℕ, Bool, true, false, List, refl, inl, inr, subst, sym, arith}
+use Rattle.std.specs.Prelude.{IfSome, IsTrue, None, Some, Option}
 use Rattle.command_words.specs.declared.command.Command.{Command}
 use Rattle.command_words.specs.declared.command.Command.TheVariants.{Node}
 use Rattle.command_words.specs.declared.command.NodeCommand.{NodeCommand}
+use Rattle.craft_edge.specs.DiskCalls.{DiskHistory}
 use Rattle.entry_frames.specs.Durable.{Durable}
 use Rattle.net_node.specs.Ends.{FaultCounts, HasEnded}
 use Rattle.net_node.specs.NodeRun.{node_run}
 use Rattle.net_node.specs.Runs.{IsLeft, StopsAmong, WhereRun}
-use Rattle.net_node.specs.Serving.{Edges}
+use Rattle.net_node.specs.Serving.{CanLeave, Edges}
 use Rattle.net_node.specs.declared.serve_end.ServeEnd.{ServeEnd}
 use Rattle.net_node.specs.declared.serve_end.ServeEnd.TheVariants as serving
-use Rattle.node_shell.specs.Opening.{LeavesFile}
+use Rattle.node_shell.specs.Opening.{LeavesFile, OpensAsBefore, StillOpens}
+use Rattle.synced_log.specs.Crashes.{BeginsWithSync, TellsSame}
 use Rattle.synced_log.specs.Standing.{FaultsAs}
 use Rattle.synced_log.specs.States.{OpensTo}
 use Rattle.synced_log.specs.declared.fault.OpenFault.{OpenFault}
@@ -20,14 +22,47 @@ use Rattle.world_model.specs.Nodes.{started}
 use Rattle.craft_edge.specs.Causes.{Rose}
 use Rattle.craft.specs.Serves.{Files, RunsPartly, RunsWhole, Serves, owner_of}
 use Rattle.craft.specs.declared.status.Status.{Status}
+use Rattle.craft.specs.declared.status.Status.TheVariants.{NoMemory}
 use Rattle.craft.specs.Statuses.{status_of_opening, status_of_serving}
 
+module _ {D : Type 0} (seen : D → Option (List ℕ)) (tells_crash tells_past : D → Bool) (moment : D → ℕ) (may_leave : D → List ℕ → Type 0) (left_since : D → ℕ → List ℕ → Type 0) (history : D → Option DiskHistory) where
+  leaves_by : (old new : D) (P : List ℕ → Type 0) (begins : BeginsWithSync tells_crash tells_past moment may_leave left_since history old new P) → IsTrue (tells_crash old)
+      → (failed : Bool) → begins.failed ≡ failed → (image : List ℕ) → may_leave new image → may_leave old image ⊎ P image
+  leaves_by old new P begins told true is image left = inl (begins.before.now told image (subst (λ (disk : D). may_leave disk image) (begins.ended is) left))
+  leaves_by old new P begins told false is image left = inr ((begins.behind is).now (subst IsTrue (sym begins.before.same_crash) told) image left)
+
+  -- what a crash leaves behind calls of which the first is a sync
+  pub leaves_behind : (old new : D) (P : List ℕ → Type 0) → TellsSame seen tells_crash tells_past history old new
+      → BeginsWithSync tells_crash tells_past moment may_leave left_since history old new P → (image : List ℕ) → CanLeave (tells_crash new) (seen new) (may_leave new) image
+      → CanLeave (tells_crash old) (seen old) (may_leave old) image ⊎ P image
+  leaves_behind old new P same begins image can =
+      let told : IsTrue (tells_crash old) = subst IsTrue same.same_crash can.told in
+      ⊎_elim (λ left. inl (record { told = told; read = subst IsTrue same.same_seen can.read; left = left })) (λ has. inr has)
+      (leaves_by old new P begins told begins.failed refl image can.left)
+
+fault_as : (node : NodeCommand) (files : Files) (edges : Edges) (old new : FaultCounts) (fault : OpenFault) → FaultsAs files.before (owner_of node) fault
+    → LeavesFile fault (owner_of node) files.before files.after → ((image : List ℕ) → files.leaves image → files.might_leave image ⊎ OpensAsBefore (owner_of node) files.before image)
+    → (fault ≡ opening.DiskFault → Rose old.disk new.disk) → Serves node files edges edges old new (status_of_opening fault)
+fault_as node files edges old new opening.DiskFault faults leaves crash cause = (cause refl, inl (refl, crash))
+fault_as node files edges old new (opening.BadJournal offset) faults leaves crash cause = (refl, faults, leaves, refl)
+fault_as node files edges old new (opening.WrongOwner found wanted) faults leaves crash cause = (faults, leaves, refl)
+fault_as node files edges old new opening.OutOfMemory faults leaves crash cause = inl ((refl, crash), leaves)
+
 pub not_opened : (node : NodeCommand) (files : Files) (edges : Edges) (old new : FaultCounts) (fault : OpenFault) → FaultsAs files.before (owner_of node) fault
-    → LeavesFile fault (owner_of node) files.before files.after → (fault ≡ opening.DiskFault → Rose old.disk new.disk) → Serves node files edges edges old new (status_of_opening fault)
-not_opened node files edges old new opening.DiskFault faults leaves cause = (cause refl, inl refl)
-not_opened node files edges old new (opening.BadJournal offset) faults leaves cause = (refl, faults, leaves, refl)
-not_opened node files edges old new (opening.WrongOwner found wanted) faults leaves cause = (faults, leaves, refl)
-not_opened node files edges old new opening.OutOfMemory faults leaves cause = inl refl
+    → LeavesFile fault (owner_of node) files.before files.after → ((image : List ℕ) → files.leaves image → files.might_leave image ⊎ OpensAsBefore (owner_of node) files.before image)
+    → (fault ≡ opening.DiskFault → Rose old.disk new.disk) → (status : Status) → status ≡ status_of_opening fault → Serves node files edges edges old new status
+not_opened node files edges old new fault faults leaves crash cause status is =
+    subst (λ told. Serves node files edges edges old new told) (sym is) (fault_as node files edges old new fault faults leaves crash cause)
+
+still_same : (node : NodeCommand) (seen : Option (List ℕ)) → StillOpens (owner_of node) seen seen
+still_same node None = tt
+still_same node (Some file) = λ d opens. opens
+
+-- nothing was done
+pub never_started : (node : NodeCommand) (files : Files) (edges : Edges) (old new : FaultCounts) → files.after ≡ files.before → ((image : List ℕ) → files.leaves image → files.might_leave image)
+    → Serves node files edges edges old new NoMemory
+never_started node files edges old new same fewer =
+    inl ((refl, λ image leaves. inl (fewer image leaves)), subst (λ after. StillOpens (owner_of node) files.before after) (sym same) (still_same node files.before))
 
 rose_since : (a b c : ℕ) → a ≤ b → Rose b c → Rose a c
 rose_since a b c later rose = omega (arith, later, rose)

@@ -9,30 +9,25 @@ use craft_edge::{Disk, MemClock, MemLink, MemSink, MemSource};
 use crash_disk::MemDisk;
 use std::alloc::Global;
 use std::test::Fail;
-use synced_log::Owner;
 use test_text::bytes_of;
 
 /// The end of a command line: where three members listen.
-const PLACES: &str = "127.0.0.1:7000 127.0.0.1:7001 127.0.0.1:7002";
+pub(crate) const PLACES: &str = "127.0.0.1:7000 127.0.0.1:7001 127.0.0.1:7002";
 
 /// The first of them: 127 * 2^24 + 1 is 2,130,706,433, and that times 65,536, plus 7000.
-const FIRST: u64 = 139_637_976_800_088;
-
-/// The journal of member 1 of three, which took part in term 1 and voted for member 0.
-const VOTED: &str =
-    "43524146544c4f47 01 01 01 01 0000000000000000000000000000000000000000 01 0000000000000014 01 0000000000000001 ff 01 0000000000000001 00 00";
+pub(crate) const FIRST: u64 = 139_637_976_800_088;
 
 /// What a run left.
 #[derive(Drop)]
-struct Outcome {
-    status: Status,
-    text: Vec<u8>,
-    disks: Vec<MemDisk>,
-    link: MemLink,
+pub(crate) struct Outcome {
+    pub(crate) status: Status,
+    pub(crate) text: Vec<u8>,
+    pub(crate) disks: Vec<MemDisk>,
+    pub(crate) link: MemLink,
 }
 
 /// A packet from the first member's place, of these digits.
-fn packets(alloc: Global, digits: &str) -> Result<Vec<(u64, Vec<u8>)>, Fail>
+pub(crate) fn packets(alloc: Global, digits: &str) -> Result<Vec<(u64, Vec<u8>)>, Fail>
     ensures { IfOk result (λ packets. All (λ packet. vec_len packet.1 ≤ 65536) packets.items) }
 {
     let bytes = bytes_of(alloc, digits).map_err(|_| "no digits")?;
@@ -42,17 +37,8 @@ fn packets(alloc: Global, digits: &str) -> Result<Vec<(u64, Vec<u8>)>, Fail>
     Ok(vec![in alloc; (FIRST, bytes)]?)
 }
 
-/// A disk whose file has these digits.
-fn disk_of(alloc: Global, digits: &str) -> Result<MemDisk, Fail> {
-    let bytes = bytes_of(alloc, digits).map_err(|_| "no digits")?;
-    let mut disk = MemDisk::new(Vec::new(alloc));
-    disk.write_at(0, &bytes)?;
-    disk.sync()?;
-    Ok(disk)
-}
-
 /// Runs `node` over a disk, or another command where there is none.
-fn run(
+pub(crate) fn run(
     alloc: Global,
     line: &str,
     disk: Option<MemDisk>,
@@ -82,11 +68,11 @@ fn run(
     })
 }
 
-fn sink(alloc: Global) -> MemSink {
+pub(crate) fn sink(alloc: Global) -> MemSink {
     MemSink::new(4096, Vec::new(alloc))
 }
 
-fn quiet(alloc: Global) -> MemLink {
+pub(crate) fn quiet(alloc: Global) -> MemLink {
     MemLink::new(Vec::new(alloc), Vec::new(alloc))
 }
 
@@ -153,41 +139,6 @@ fn a_node_ticks_and_drops_a_packet(rt: HostRuntime) -> Result<(), Fail> {
     let header = "43524146544c4f47 01 01 01 00 0000000000000000000000000000000000000000 00";
     let header = bytes_of(alloc, header).map_err(|_| "no digits")?;
     assert_eq!(rt; &file[..33], header.as_slice());
-    Ok(())
-}
-
-#[test]
-fn a_journal_that_is_none_of_its_own_is_told(rt: HostRuntime) -> Result<(), Fail> {
-    let alloc = rt.alloc();
-    let line = format!(in alloc; "node 1 1 0 0 2 j {PLACES}")?;
-    let (found, wanted) = (Owner { f: 1, k: 1, me: 1 }, Owner { f: 1, k: 1, me: 0 });
-    let disk = disk_of(alloc, VOTED)?;
-    let ran = run(alloc, &line, Some(disk), quiet(alloc), sink(alloc))?;
-    assert_eq!(rt; ran.status, Status::WrongOwner { found, wanted });
-    assert_eq!(rt; ran.text.len(), 0);
-    assert_eq!(rt; ran.disks.len(), 1);
-    let line = format!(in alloc; "node 1 1 1 0 1 j {PLACES}")?;
-    let Some(cut) = VOTED.strip_suffix(" 00") else {
-        return Err("no suffix".into());
-    };
-    let ran = run(
-        alloc,
-        &line,
-        Some(disk_of(alloc, cut)?),
-        quiet(alloc),
-        sink(alloc),
-    )?;
-    assert_eq!(rt;
-        ran.status,
-        Status::BadJournal {
-            disk: 0,
-            offset: 61
-        }
-    );
-    let disk = disk_of(alloc, VOTED)?;
-    let ran = run(alloc, &line, Some(disk), quiet(alloc), sink(alloc))?;
-    assert_eq!(rt; ran.status, Status::Done);
-    assert_eq!(rt; ran.text.as_slice(), b"1 done\n".as_slice());
     Ok(())
 }
 

@@ -7,15 +7,21 @@ ghost use Rattle.craft.specs.Program.{is_node, paths};
 
 mod ask;
 #[cfg(test)]
+mod journal_tests;
+#[cfg(test)]
 mod linked_tests;
 mod node;
 mod paths;
 mod status;
 #[cfg(test)]
+mod status_tests;
+#[cfg(test)]
 mod storm_tests;
 #[cfg(test)]
 mod tests;
 mod top;
+#[cfg(test)]
+mod value_tests;
 
 use command_words::{Command, plan};
 use craft_base::OutOfMemory;
@@ -168,14 +174,15 @@ fn run_alone(rt: &HostRuntime, words: &[String]) -> Result<Status, OutOfMemory>
     Ok(status)
 }
 
-/// A command that has a socket and a clock too, and perhaps a journal.
+/// A command that has a socket and a clock too, and perhaps a journal. The socket is bound first: where its port is taken, no file is
+/// made at the journal's path.
 fn run_linked(rt: &HostRuntime, words: &[String]) -> Result<Status, OutOfMemory> {
     let alloc = rt.alloc();
-    let Some(disks) = open_disks(rt, words)? else {
-        return Ok(Status::DiskFault);
-    };
     let Some(mut link) = open_link(rt, words)? else {
         return Ok(Status::LinkFault);
+    };
+    let Some(disks) = open_disks(rt, words)? else {
+        return Ok(Status::DiskFault);
     };
     let mut src = StdSource::new(rt.reader());
     let mut out = StdSink::new(writer(rt));

@@ -1,14 +1,13 @@
 //! Whole runs of the top call, with what they print worked out by hand.
 ghost use Rattle.std.specs.Prelude.{◌<◌};
 
-use crate::paths::{paths_of, place_of};
-use crate::status::{Status, code_of, text_of};
+use crate::paths::paths_of;
+use crate::status::Status;
 use crate::top::craft;
 use craft_edge::{MemClock, MemLink, MemSink, MemSource};
 use crash_disk::MemDisk;
 use std::alloc::Global;
 use std::test::Fail;
-use synced_log::Owner;
 
 const ELECTION: &[u8] = b"tick 0 0\ntick 0 0\ntick 0 0\ntake 1\ntake 3\n";
 
@@ -80,69 +79,6 @@ fn a_repeated_vote_counts_once(rt: HostRuntime) -> Result<(), Fail> {
     let (status, text) = run(rt.alloc(), "replay 2 1", input, 4096)?;
     assert_eq!(rt; status, Status::Done);
     assert_eq!(rt; text.as_slice(), want.as_slice());
-    Ok(())
-}
-
-/// By hand: words, input, status, output.
-const VALUES: [(&str, &[u8], Status, &[u8]); 9] = [
-    (
-        "split 1 2",
-        b"\x01\x02",
-        Status::Done,
-        b"value 2\npart 0 03\npart 1 05\npart 2 07\n",
-    ),
-    (
-        "split 1 2",
-        b"\x00\x80",
-        Status::Done,
-        b"value 2\npart 0 80\npart 1 1d\npart 2 9d\n",
-    ),
-    (
-        "split 1 2",
-        b"",
-        Status::Done,
-        b"value 0\npart 0 -\npart 1 -\npart 2 -\n",
-    ),
-    (
-        "split 1 1",
-        b"ab",
-        Status::Done,
-        b"value 2\npart 0 6162\npart 1 6162\npart 2 6162\n",
-    ),
-    (
-        "join 1 2",
-        b"value 0\npart 0 -\npart 1 -\npart 2 -\n",
-        Status::Done,
-        b"",
-    ),
-    (
-        "join 1 2",
-        b"value 2\npart 1 1d\npart 2 9d\n",
-        Status::Done,
-        b"\x00\x80",
-    ),
-    (
-        "join 1 2",
-        b"value 2\npart 1 1d\n",
-        Status::TooFew { index: 1 },
-        b"",
-    ),
-    (
-        "join 1 2",
-        b"value 2\npart 1 1D\n",
-        Status::BadSchedule { line: 2 },
-        b"",
-    ),
-    ("join 1 2", b"", Status::BadSchedule { line: 1 }, b""),
-];
-
-#[test]
-fn a_value_is_split_and_joined(rt: HostRuntime) -> Result<(), Fail> {
-    for (line, input, want_status, want) in VALUES {
-        let (status, text) = run(rt.alloc(), line, input, 4096)?;
-        assert_eq!(rt; status, want_status, "at {line} of {input:?}");
-        assert_eq!(rt; text.as_slice(), want, "at {line} of {input:?}");
-    }
     Ok(())
 }
 
@@ -249,51 +185,5 @@ fn a_device_that_fails_ends_the_run(rt: HostRuntime) -> Result<(), Fail> {
         assert_eq!(rt; status, Status::SinkFault, "at write {call}");
         assert_eq!(rt; text.as_slice(), want, "at write {call}");
     }
-    Ok(())
-}
-
-#[test]
-fn each_status_has_its_code_and_its_text(rt: HostRuntime) -> Result<(), Fail> {
-    let (found, wanted) = (Owner { f: 1, k: 2, me: 0 }, Owner { f: 1, k: 1, me: 0 });
-    let table: [(Status, u8, &[u8]); 12] = [
-        (Status::Done, 0, b""),
-        (
-            Status::BadJournal {
-                disk: 0,
-                offset: 32,
-            },
-            4,
-            b"craft: bad journal 0 at byte 32\n",
-        ),
-        (
-            Status::WrongOwner { found, wanted },
-            5,
-            b"craft: wrong owner 1 2 0, wanted 1 1 0\n",
-        ),
-        (Status::DiskFault, 8, b"craft: disk failed\n"),
-        (Status::LinkFault, 9, b"craft: link failed\n"),
-        (
-            Status::NoAnswer { sent: 20 },
-            10,
-            b"craft: no answer after 20 sends\n",
-        ),
-        (Status::BadWords, 2, b"craft: bad words\n"),
-        (
-            Status::BadSchedule { line: 2 },
-            3,
-            b"craft: bad schedule at line 2\n",
-        ),
-        (Status::TooFew { index: 1 }, 11, b"craft: too few at 1\n"),
-        (Status::SourceFault, 6, b"craft: source failed\n"),
-        (Status::SinkFault, 7, b"craft: sink failed\n"),
-        (Status::NoMemory, 12, b"craft: out of memory\n"),
-    ];
-    for (status, code, text) in table {
-        assert_eq!(rt; code_of(&status), code);
-        assert_eq!(rt; text_of(rt.alloc(), &status)?.as_bytes(), text);
-    }
-    let words = words_of(rt.alloc(), "replay 1 1")?;
-    assert_eq!(rt; paths_of(rt.alloc(), &words)?.len(), 0);
-    assert_eq!(rt; place_of(rt.alloc(), &words)?, None);
     Ok(())
 }

@@ -6,6 +6,7 @@ ghost use Rattle.command_words.specs.declared.command.Command.{Command as AnyCom
 ghost use Rattle.command_words.specs.declared.command.Command.TheVariants.{Node};
 ghost use Rattle.command_words.specs.declared.command.NodeCommand as nodes;
 ghost use Rattle.net_node.specs.Serving.{CanLeave};
+ghost use Rattle.synced_log.specs.Crashes.{TellsSame};
 ghost use Rattle.craft.specs.Program.{Answers, NeverBegins, is_node, paths};
 ghost use Rattle.craft.specs.Serves.{Serves};
 
@@ -45,10 +46,10 @@ pub fn craft<S: Source, O: Sink, D: Disk, L: Link, C: Clock>(
         (record { streams = record { left = S.left src.old; taken = O.taken out.old; source_faults = S.faults src.old; sink_faults = O.faults out.old }; link = record { coming = L.coming link.old; sent = L.sent link.old; faults = L.faults link.old }; readings = C.readings clock.old })
         (record { streams = record { left = S.left src.new; taken = O.taken out.new; source_faults = S.faults src.new; sink_faults = O.faults out.new }; link = record { coming = L.coming link.new; sent = L.sent link.new; faults = L.faults link.new }; readings = C.readings clock.new }) result.0 }
 
-    // And of `node`, over its disk.
+    // And of `node`, over its disk, which tells what it told; also where memory was wanting to read the words.
     ensures serves { (node : nodes.NodeCommand) (disk : D) → commands.plan (map string_bytes words.now) ≡ Some (Node node) → disks.items ≡ disk ∷ [] →
-        (left : D) × (result.1.items ≡ left ∷ []) × Serves node
-        (record { before = D.seen disk; after = D.seen left; leaves = CanLeave (D.tells_crash left) (D.seen left) (D.may_leave left) })
+        (left : D) × (result.1.items ≡ left ∷ []) × TellsSame D.seen D.tells_crash D.tells_past D.history disk left × Serves node
+        (record { before = D.seen disk; after = D.seen left; might_leave = CanLeave (D.tells_crash disk) (D.seen disk) (D.may_leave disk); leaves = CanLeave (D.tells_crash left) (D.seen left) (D.may_leave left) })
         (record { readings = C.readings clock.old; coming = L.coming link.old; sent = L.sent link.old; taken = O.taken out.old })
         (record { readings = C.readings clock.new; coming = L.coming link.new; sent = L.sent link.new; taken = O.taken out.new })
         (record { sink = O.faults out.old; disk = D.faults disk; link = L.faults link.old })
@@ -86,8 +87,8 @@ fn run<S: Source, O: Sink, D: Disk, L: Link, C: Clock>(
         (record { streams = record { left = S.left src.old; taken = O.taken out.old; source_faults = S.faults src.old; sink_faults = O.faults out.old }; link = record { coming = L.coming link.old; sent = L.sent link.old; faults = L.faults link.old }; readings = C.readings clock.old })
         (record { streams = record { left = S.left src.new; taken = O.taken out.new; source_faults = S.faults src.new; sink_faults = O.faults out.new }; link = record { coming = L.coming link.new; sent = L.sent link.new; faults = L.faults link.new }; readings = C.readings clock.new }) result.0 }
     ensures serves { (node : nodes.NodeCommand) (disk : D) → command.now ≡ Node node → disks.items ≡ disk ∷ [] →
-        (left : D) × (result.1.items ≡ left ∷ []) × Serves node
-        (record { before = D.seen disk; after = D.seen left; leaves = CanLeave (D.tells_crash left) (D.seen left) (D.may_leave left) })
+        (left : D) × (result.1.items ≡ left ∷ []) × TellsSame D.seen D.tells_crash D.tells_past D.history disk left × Serves node
+        (record { before = D.seen disk; after = D.seen left; might_leave = CanLeave (D.tells_crash disk) (D.seen disk) (D.may_leave disk); leaves = CanLeave (D.tells_crash left) (D.seen left) (D.may_leave left) })
         (record { readings = C.readings clock.old; coming = L.coming link.old; sent = L.sent link.old; taken = O.taken out.old })
         (record { readings = C.readings clock.new; coming = L.coming link.new; sent = L.sent link.new; taken = O.taken out.new })
         (record { sink = O.faults out.old; disk = D.faults disk; link = L.faults link.old })
@@ -120,8 +121,8 @@ fn run_on_disk<O: Sink, D: Disk, L: Link, C: Clock>(
 ) -> (Status, Vec<D>)
     requires ranged { IsCommand (Node node.now) }
     requires one { vec_len disks ≡ 1 }
-    ensures serves { (disk : D) → disks.items ≡ disk ∷ [] → (left : D) × (result.1.items ≡ left ∷ []) × Serves node.now
-        (record { before = D.seen disk; after = D.seen left; leaves = CanLeave (D.tells_crash left) (D.seen left) (D.may_leave left) })
+    ensures serves { (disk : D) → disks.items ≡ disk ∷ [] → (left : D) × (result.1.items ≡ left ∷ []) × TellsSame D.seen D.tells_crash D.tells_past D.history disk left × Serves node.now
+        (record { before = D.seen disk; after = D.seen left; might_leave = CanLeave (D.tells_crash disk) (D.seen disk) (D.may_leave disk); leaves = CanLeave (D.tells_crash left) (D.seen left) (D.may_leave left) })
         (record { readings = C.readings clock.old; coming = L.coming link.old; sent = L.sent link.old; taken = O.taken out.old })
         (record { readings = C.readings clock.new; coming = L.coming link.new; sent = L.sent link.new; taken = O.taken out.new })
         (record { sink = O.faults out.old; disk = D.faults disk; link = L.faults link.old })

@@ -20,11 +20,11 @@ pub enum Heard<'a> {
     Peer(MessageView<'a>),
     /// A client asks.
     Asked(Request),
-    /// It is no frame of the group, or it isn't for this node.
+    /// It is no frame of the cluster, or it isn't for this node.
     Nothing,
 }
 
-/// What a packet says to a member of the group. The only error is want of memory.
+/// What a packet says to a member of the cluster. The only error is want of memory.
 pub fn heard_in<'a>(
     alloc: Global,
     shape: &Shape,

@@ -1,8 +1,10 @@
 //! A running node: turn by turn it reads its clock or takes a packet, and tells what follows only once that is in its journal.
 #![tactic(auto)]
 
+mod cluster;
 mod event_text;
-mod group;
+#[cfg(test)]
+mod fault_tests;
 mod heard;
 mod packets;
 mod sending;

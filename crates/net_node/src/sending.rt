@@ -7,7 +7,7 @@ ghost use Rattle.world_model.specs.Ranges.{HasSpelling};
 ghost use Rattle.net_node.specs.NodeRun as run;
 ghost use Rattle.net_node.specs.Sending.{CanBeSent, Sends, SendsFront, SendsNot};
 
-use crate::group::Group;
+use crate::cluster::Cluster;
 use crate::serve_end::ServeEnd;
 use craft_base::MemberId;
 use craft_edge::{Failed, Link};
@@ -15,34 +15,34 @@ use peer_frames::{Message, Output, write_message};
 
 /// Sends what a turn tells others, in order, up to the first send that fails.
 pub fn send_all<L: Link>(
-    group: &Group<'_>,
+    cluster: &Cluster<'_>,
     outputs: Vec<Output>,
     link: &mut L,
 ) -> Result<(), ServeEnd>
-    requires { All (CanBeSent group.now.shape.now group.now.me) outputs.items }
-    ensures sent { OnOk result (Sends (L.sent link.old) (L.sent link.new) (run.packets_among group.now.shape.now group.now.places.now group.now.me outputs.items)) }
-    ensures front { OnErr result (SendsFront (L.sent link.old) (L.sent link.new) (run.packets_among group.now.shape.now group.now.places.now group.now.me outputs.items)) }
+    requires { All (CanBeSent cluster.now.shape.now cluster.now.me) outputs.items }
+    ensures sent { OnOk result (Sends (L.sent link.old) (L.sent link.new) (run.packets_among cluster.now.shape.now cluster.now.places.now cluster.now.me outputs.items)) }
+    ensures front { OnErr result (SendsFront (L.sent link.old) (L.sent link.new) (run.packets_among cluster.now.shape.now cluster.now.places.now cluster.now.me outputs.items)) }
     ensures coming { L.coming link.new ≡ L.coming link.old }
     ensures later { L.faults link.old ≤ L.faults link.new }
     ensures cause { IfErr result (SendsNot (L.faults link.old) (L.faults link.new)) }
 {
     for output in outputs {
-        send_output(group, output, link)?;
+        send_output(cluster, output, link)?;
     }
     Ok(())
 }
 
 /// Sends what an output tells another, if it does.
-fn send_output<L: Link>(group: &Group<'_>, output: Output, link: &mut L) -> Result<(), ServeEnd>
-    requires { CanBeSent group.now.shape.now group.now.me output }
-    ensures sent { OnOk result (Sends (L.sent link.old) (L.sent link.new) (run.packets_of group.now.shape.now group.now.places.now group.now.me output)) }
+fn send_output<L: Link>(cluster: &Cluster<'_>, output: Output, link: &mut L) -> Result<(), ServeEnd>
+    requires { CanBeSent cluster.now.shape.now cluster.now.me output }
+    ensures sent { OnOk result (Sends (L.sent link.old) (L.sent link.new) (run.packets_of cluster.now.shape.now cluster.now.places.now cluster.now.me output)) }
     ensures none { OnErr result (L.sent link.new ≡ L.sent link.old) }
     ensures coming { L.coming link.new ≡ L.coming link.old }
     ensures later { L.faults link.old ≤ L.faults link.new }
     ensures cause { IfErr result (SendsNot (L.faults link.old) (L.faults link.new)) }
 {
     match output {
-        Output::Send { message } => send_message(group, message, link),
+        Output::Send { message } => send_message(cluster, message, link),
         Output::Reply {
             place,
             client,
@@ -50,12 +50,12 @@ fn send_output<L: Link>(group: &Group<'_>, output: Output, link: &mut L) -> Resu
             reply,
         } => {
             let message = Message::Answered {
-                from: group.me,
+                from: cluster.me,
                 client,
                 seq,
                 reply,
             };
-            send_to(group, place, &message, link)
+            send_to(cluster, place, &message, link)
         }
         Output::Role { .. } | Output::Cut { .. } | Output::Whole { .. } | Output::Commit { .. } => {
             Ok(())
@@ -64,19 +64,23 @@ fn send_output<L: Link>(group: &Group<'_>, output: Output, link: &mut L) -> Resu
 }
 
 /// Sends a message to where its receiver listens.
-fn send_message<L: Link>(group: &Group<'_>, message: Message, link: &mut L) -> Result<(), ServeEnd>
-    requires { HasSpelling group.now.shape.now message }
-    ensures sent { OnOk result (Sends (L.sent link.old) (L.sent link.new) (run.packets_of group.now.shape.now group.now.places.now group.now.me (outputs.Send message))) }
+fn send_message<L: Link>(
+    cluster: &Cluster<'_>,
+    message: Message,
+    link: &mut L,
+) -> Result<(), ServeEnd>
+    requires { HasSpelling cluster.now.shape.now message }
+    ensures sent { OnOk result (Sends (L.sent link.old) (L.sent link.new) (run.packets_of cluster.now.shape.now cluster.now.places.now cluster.now.me (outputs.Send message))) }
     ensures none { OnErr result (L.sent link.new ≡ L.sent link.old) }
     ensures coming { L.coming link.new ≡ L.coming link.old }
     ensures later { L.faults link.old ≤ L.faults link.new }
     ensures cause { IfErr result (SendsNot (L.faults link.old) (L.faults link.new)) }
 {
     let place = match &message {
-        Message::Peer { to, .. } => place_of(group.places, *to),
+        Message::Peer { to, .. } => place_of(cluster.places, *to),
         Message::Request { .. } | Message::Answered { .. } => unreachable!(),
     };
-    send_to(group, place, &message, link)
+    send_to(cluster, place, &message, link)
 }
 
 /// Where a member listens.
@@ -91,19 +95,19 @@ fn place_of(places: &[u64], member: MemberId) -> u64
 
 /// Sends a message to a place.
 fn send_to<L: Link>(
-    group: &Group<'_>,
+    cluster: &Cluster<'_>,
     place: u64,
     message: &Message,
     link: &mut L,
 ) -> Result<(), ServeEnd>
-    requires { Fits (frame_fields group.now.shape.now) message.now }
-    ensures sent { OnOk result (Sends (L.sent link.old) (L.sent link.new) (run.packet_to group.now.shape.now place message.now ∷ [])) }
+    requires { Fits (frame_fields cluster.now.shape.now) message.now }
+    ensures sent { OnOk result (Sends (L.sent link.old) (L.sent link.new) (run.packet_to cluster.now.shape.now place message.now ∷ [])) }
     ensures none { OnErr result (L.sent link.new ≡ L.sent link.old) }
     ensures coming { L.coming link.new ≡ L.coming link.old }
     ensures later { L.faults link.old ≤ L.faults link.new }
     ensures cause { IfErr result (SendsNot (L.faults link.old) (L.faults link.new)) }
 {
-    let Ok(frame) = write_message(group.alloc, group.shape, message) else {
+    let Ok(frame) = write_message(cluster.alloc, cluster.shape, message) else {
         return Err(ServeEnd::NoMemory);
     };
     match link.send(place, frame.as_bytes()) {

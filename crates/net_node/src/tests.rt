@@ -19,7 +19,7 @@ const PLACES: [u64; 3] = [101, 102, 103];
 const SEED: u64 = 13;
 
 /// What three ticks by these words print at member 0.
-const ELECTION: &str =
+pub(crate) const ELECTION: &str =
     "1 done\n2 done\n3 done\nrole 0 candidate 1\nsend 1 0 1 vote 1 0 0\nsend 2 0 2 vote 1 0 0\n";
 
 /// A request for the vote in term 1, with an empty log, behind its kind and its two ends.
@@ -27,14 +27,14 @@ const VOTE: &str = "0000000000000001 0000000000000000 0000000000000000";
 
 /// What a run left.
 #[derive(Drop)]
-struct Outcome {
-    end: ServeEnd,
-    link: MemLink,
-    out: MemSink,
+pub(crate) struct Outcome {
+    pub(crate) end: ServeEnd,
+    pub(crate) link: MemLink,
+    pub(crate) out: MemSink,
 }
 
 /// Runs member 0 of three over a disk, where its journal can be opened.
-fn ran_on(
+pub(crate) fn ran_on(
     alloc: Global,
     turns: u64,
     disk: MemDisk,
@@ -57,7 +57,7 @@ fn ran_on(
 }
 
 /// Runs it over a new disk that never fails.
-fn ran(
+pub(crate) fn ran(
     alloc: Global,
     turns: u64,
     link: MemLink,
@@ -78,7 +78,7 @@ fn ran(
 }
 
 /// Clocks that show these readings, the first before the first turn.
-fn rising(alloc: Global) -> Result<MemClock, Fail> {
+pub(crate) fn rising(alloc: Global) -> Result<MemClock, Fail> {
     Ok(MemClock::new(vec![in alloc; 5, 6, 7, 8]?))
 }
 
@@ -104,7 +104,7 @@ fn link_with(alloc: Global, place: u64, digits: &str) -> Result<MemLink, Fail> {
 }
 
 /// A link with nothing to come, which fails at those calls.
-fn quiet_link(alloc: Global, fail: Vec<u64>) -> MemLink {
+pub(crate) fn quiet_link(alloc: Global, fail: Vec<u64>) -> MemLink {
     MemLink::new(Vec::new(alloc), fail)
 }
 
@@ -214,56 +214,5 @@ fn a_turn_without_an_event_prints_nothing(rt: HostRuntime) -> Result<(), Fail> {
     assert_eq!(rt; run.end, ServeEnd::Turns);
     assert_eq!(rt; run.out.taken().len(), 0);
     assert_eq!(rt; run.link.sent(0), None);
-    Ok(())
-}
-
-#[test]
-fn a_sink_that_fails_ends_it_before_anything_is_sent(rt: HostRuntime) -> Result<(), Fail> {
-    let alloc = rt.alloc();
-    for call in 1..=3_u64 {
-        let link = quiet_link(alloc, Vec::new(alloc));
-        let out = MemSink::new(4096, vec![in alloc; call]?);
-        let run = ran(alloc, 3, link, rising(alloc)?, out)?;
-        assert_eq!(rt; run.end, ServeEnd::SinkFault, "at {call}");
-        assert_eq!(rt; run.out.taken().len() as u64, 7 * (call - 1));
-        assert_eq!(rt; run.link.sent(0), None);
-    }
-    Ok(())
-}
-
-#[test]
-fn a_link_that_fails_ends_it(rt: HostRuntime) -> Result<(), Fail> {
-    let alloc = rt.alloc();
-    for call in 1..=3_u64 {
-        let link = quiet_link(alloc, vec![in alloc; call]?);
-        let out = MemSink::new(4096, Vec::new(alloc));
-        let run = ran(alloc, 4, link, rising(alloc)?, out)?;
-        assert_eq!(rt; run.end, ServeEnd::LinkFault, "at {call}");
-        assert!(rt; run.out.taken() == ELECTION.as_bytes());
-        assert_eq!(rt; run.link.sent(call - 1), None);
-    }
-    Ok(())
-}
-
-#[test]
-fn a_disk_that_fails_ends_it_before_anything_is_told(rt: HostRuntime) -> Result<(), Fail> {
-    let alloc = rt.alloc();
-    let mut faults = 0_u64;
-    for call in 1..=20_u64 {
-        let link = quiet_link(alloc, Vec::new(alloc));
-        let out = MemSink::new(4096, Vec::new(alloc));
-        let disk = MemDisk::new(vec![in alloc; call]?);
-        let Some(run) = ran_on(alloc, 3, disk, link, rising(alloc)?, out)? else {
-            continue;
-        };
-        if run.end == ServeEnd::Turns {
-            continue;
-        }
-        assert_eq!(rt; run.end, ServeEnd::DiskFault, "at {call}");
-        assert!(rt; run.out.taken() == "1 done\n2 done\n".as_bytes());
-        assert_eq!(rt; run.link.sent(0), None);
-        faults = faults.saturating_add(1);
-    }
-    assert_eq!(rt; faults, 4);
     Ok(())
 }

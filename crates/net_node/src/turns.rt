@@ -10,7 +10,7 @@ ghost use Rattle.net_node.specs.NodeRun as run;
 ghost use Rattle.net_node.specs.Runs.{HaltsAmong, IsLeft, StopsAmong, WhereRun};
 ghost use Rattle.net_node.specs.Serving.{CanLeave, Halts, IsOf, Makes, TellsAs};
 
-use crate::group::Group;
+use crate::cluster::Cluster;
 use crate::packets::receive;
 use crate::serve_end::ServeEnd;
 use crate::serving::{Counts, Serving};
@@ -26,7 +26,7 @@ use std::alloc::Global;
 /// Room for any packet.
 const ROOM: usize = 65_536;
 
-/// Runs a member of a group for that many turns, and hands its disk back.
+/// Runs a member of a cluster for that many turns, and hands its disk back.
 ///
 /// It reads the clock once before the first turn. A turn reads it again; where the reading rose, the member is told that time
 /// passes, with the next word that SplitMix64 makes of the seed. Else it is told what the next packet says, if one comes. Each of
@@ -70,7 +70,7 @@ pub fn serve<D: Disk, L: Link, C: Clock, O: Sink>(
     let Ok(mut buf) = vec![in alloc; 0; ROOM] else {
         return (ServeEnd::NoMemory, shell.give_back());
     };
-    let group = Group {
+    let cluster = Cluster {
         alloc,
         shape,
         me,
@@ -85,7 +85,7 @@ pub fn serve<D: Disk, L: Link, C: Clock, O: Sink>(
             frame: 1,
         },
     };
-    match run(&group, turns, serving, &mut buf, link, clock, out) {
+    match run(&cluster, turns, serving, &mut buf, link, clock, out) {
         Ok(serving) => (ServeEnd::Turns, serving.shell.give_back()),
         Err((end, disk)) => (end, disk),
     }
@@ -93,7 +93,7 @@ pub fn serve<D: Disk, L: Link, C: Clock, O: Sink>(
 
 /// Makes so many turns.
 fn run<D: Disk, L: Link, C: Clock, O: Sink>(
-    group: &Group<'_>,
+    cluster: &Cluster<'_>,
     turns: u64,
     serving: Serving<D>,
     buf: &mut [u8],
@@ -101,13 +101,13 @@ fn run<D: Disk, L: Link, C: Clock, O: Sink>(
     clock: &mut C,
     out: &mut O,
 ) -> Result<Serving<D>, (ServeEnd, D)>
-    requires member { IsOf group.now.shape.now group.now.me serving.shell.core }
+    requires member { IsOf cluster.now.shape.now cluster.now.me serving.shell.core }
     requires room { serving.counts.events + turns < 2 ^ 64 }
     requires buffer { 65536 ≤ length buf.old }
-    ensures made { IfOk result (λ x. Makes (run.node_run group.now.places.now turns) group.now.shape.now group.now.me turns
+    ensures made { IfOk result (λ x. Makes (run.node_run cluster.now.places.now turns) cluster.now.shape.now cluster.now.me turns
         (record { core = serving.shell.core; counts = serving.counts; edges = record { readings = C.readings clock.old; coming = L.coming link.old; sent = L.sent link.old; taken = O.taken out.old }; faults = record { sink = O.faults out.old; disk = D.faults serving.shell.disk; link = L.faults link.old } })
         (record { core = x.shell.core; counts = x.counts; edges = record { readings = C.readings clock.new; coming = L.coming link.new; sent = L.sent link.new; taken = O.taken out.new }; faults = record { sink = O.faults out.new; disk = D.faults x.shell.disk; link = L.faults link.new } })) }
-    ensures halted { IfErr result (λ x. HaltsAmong group.now.places.now turns group.now.shape.now group.now.me
+    ensures halted { IfErr result (λ x. HaltsAmong cluster.now.places.now turns cluster.now.shape.now cluster.now.me
         (record { core = serving.shell.core; counts = serving.counts; edges = record { readings = C.readings clock.old; coming = L.coming link.old; sent = L.sent link.old; taken = O.taken out.old }; faults = record { sink = O.faults out.old; disk = D.faults serving.shell.disk; link = L.faults link.old } })
         (record { readings = C.readings clock.new; coming = L.coming link.new; sent = L.sent link.new; taken = O.taken out.new })
         (record { sink = O.faults out.new; disk = D.faults x.1; link = L.faults link.new })
@@ -117,27 +117,27 @@ fn run<D: Disk, L: Link, C: Clock, O: Sink>(
 {
     let mut serving = serving;
     for _ in 0..turns {
-        serving = turn(group, serving, buf, link, clock, out)?;
+        serving = turn(cluster, serving, buf, link, clock, out)?;
     }
     Ok(serving)
 }
 
 /// Makes a turn.
 fn turn<D: Disk, L: Link, C: Clock, O: Sink>(
-    group: &Group<'_>,
+    cluster: &Cluster<'_>,
     serving: Serving<D>,
     buf: &mut [u8],
     link: &mut L,
     clock: &mut C,
     out: &mut O,
 ) -> Result<Serving<D>, (ServeEnd, D)>
-    requires member { IsOf group.now.shape.now group.now.me serving.shell.core }
+    requires member { IsOf cluster.now.shape.now cluster.now.me serving.shell.core }
     requires room { serving.counts.events + 1 < 2 ^ 64 }
     requires buffer { 65536 ≤ length buf.old }
-    ensures made { IfOk result (λ x. Makes (run.turn_of_node group.now.places.now) group.now.shape.now group.now.me 1
+    ensures made { IfOk result (λ x. Makes (run.turn_of_node cluster.now.places.now) cluster.now.shape.now cluster.now.me 1
         (record { core = serving.shell.core; counts = serving.counts; edges = record { readings = C.readings clock.old; coming = L.coming link.old; sent = L.sent link.old; taken = O.taken out.old }; faults = record { sink = O.faults out.old; disk = D.faults serving.shell.disk; link = L.faults link.old } })
         (record { core = x.shell.core; counts = x.counts; edges = record { readings = C.readings clock.new; coming = L.coming link.new; sent = L.sent link.new; taken = O.taken out.new }; faults = record { sink = O.faults out.new; disk = D.faults x.shell.disk; link = L.faults link.new } })) }
-    ensures halted { IfErr result (λ x. Halts (run.turn_of_node group.now.places.now) group.now.shape.now group.now.me
+    ensures halted { IfErr result (λ x. Halts (run.turn_of_node cluster.now.places.now) cluster.now.shape.now cluster.now.me
         (record { core = serving.shell.core; counts = serving.counts; edges = record { readings = C.readings clock.old; coming = L.coming link.old; sent = L.sent link.old; taken = O.taken out.old }; faults = record { sink = O.faults out.old; disk = D.faults serving.shell.disk; link = L.faults link.old } })
         (record { readings = C.readings clock.new; coming = L.coming link.new; sent = L.sent link.new; taken = O.taken out.new })
         (record { sink = O.faults out.new; disk = D.faults x.1; link = L.faults link.new })
@@ -154,25 +154,25 @@ fn turn<D: Disk, L: Link, C: Clock, O: Sink>(
     };
     let serving = Serving { shell, counts };
     if rose {
-        tick(group, serving, link, out)
+        tick(cluster, serving, link, out)
     } else {
-        receive(group, serving, buf, link, out)
+        receive(cluster, serving, buf, link, out)
     }
 }
 
 /// Time passes.
 fn tick<D: Disk, L: Link, O: Sink>(
-    group: &Group<'_>,
+    cluster: &Cluster<'_>,
     serving: Serving<D>,
     link: &mut L,
     out: &mut O,
 ) -> Result<Serving<D>, (ServeEnd, D)>
-    requires member { IsOf group.now.shape.now group.now.me serving.shell.core }
+    requires member { IsOf cluster.now.shape.now cluster.now.me serving.shell.core }
     requires room { serving.counts.events + 1 < 2 ^ 64 }
-    ensures made { IfOk result (λ x. (readings : Option (List ℕ)) → Makes (run.ticking group.now.places.now) group.now.shape.now group.now.me 1
+    ensures made { IfOk result (λ x. (readings : Option (List ℕ)) → Makes (run.ticking cluster.now.places.now) cluster.now.shape.now cluster.now.me 1
         (record { core = serving.shell.core; counts = serving.counts; edges = record { readings = readings; coming = L.coming link.old; sent = L.sent link.old; taken = O.taken out.old }; faults = record { sink = O.faults out.old; disk = D.faults serving.shell.disk; link = L.faults link.old } })
         (record { core = x.shell.core; counts = x.counts; edges = record { readings = readings; coming = L.coming link.new; sent = L.sent link.new; taken = O.taken out.new }; faults = record { sink = O.faults out.new; disk = D.faults x.shell.disk; link = L.faults link.new } })) }
-    ensures halted { IfErr result (λ x. (readings : Option (List ℕ)) → Halts (run.ticking group.now.places.now) group.now.shape.now group.now.me
+    ensures halted { IfErr result (λ x. (readings : Option (List ℕ)) → Halts (run.ticking cluster.now.places.now) cluster.now.shape.now cluster.now.me
         (record { core = serving.shell.core; counts = serving.counts; edges = record { readings = readings; coming = L.coming link.old; sent = L.sent link.old; taken = O.taken out.old }; faults = record { sink = O.faults out.old; disk = D.faults serving.shell.disk; link = L.faults link.old } })
         (record { readings = readings; coming = L.coming link.new; sent = L.sent link.new; taken = O.taken out.new })
         (record { sink = O.faults out.new; disk = D.faults x.1; link = L.faults link.new })
@@ -182,5 +182,5 @@ fn tick<D: Disk, L: Link, O: Sink>(
 {
     let mut serving = serving;
     let word = serving.counts.words.next_word();
-    serving.step(group, &Event::Tick { word }, link, out)
+    serving.step(cluster, &Event::Tick { word }, link, out)
 }

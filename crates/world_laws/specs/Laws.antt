@@ -1,29 +1,39 @@
 -- What holds of every run, in parts: of each shape and each list of events in range. The words are those of `world_model`'s Safety.
-use Rattle.std.specs.Prelude.{◌≡◌, ℕ, ◌<◌, ◌≤◌, true, List, map, take, Some, slice_get}
-use Rattle.craft_base.specs.Shape.{Shape}
+use Rattle.std.specs.Prelude.{◌≡◌, ℕ, ◌<◌, ◌≤◌, Bool, true, List, map, take, Some, slice_get}
+use Rattle.std.specs.List.{count_by}
+use Rattle.craft_base.specs.Knowledge.{members}
+use Rattle.craft_base.specs.Shape.{Shape, majority_of}
 use Rattle.craft_base.specs.declared.command.Entry.{Entry}
 use Rattle.craft_base.specs.declared.command.Reply.{Reply}
 use Rattle.craft_base.specs.declared.command.Reply.TheVariants.{Done, Differs, Gone, Value, Nothing, Old}
 use Rattle.kv_apply.specs.Commands.{is_of, map_reply}
-use Rattle.world_model.specs.Safety.{EverLed, IsFront, IsIn, IsRun, StandsFor, StandsIn, committed, heads_in, value_in}
+use Rattle.world_model.specs.Safety.{EverLed, IsFront, IsIn, IsRun, Rebuilds, StandsFor, StandsIn, committed, heads_in, value_in}
 use Rattle.world_model.specs.Traces.{Command, LeaderCommit, Removal, Replied}
 use Rattle.world_model.specs.World.{Member, run}
 use Rattle.world_model.specs.declared.line.Line.{Line}
 
 -- at each place below a member's commit index there is a command in the list that is committed, and the member's log has an entry
--- for it, with the whole value
+-- for it, with the whole value or with the member's fragment of it
 abbrev pub OneList : Type 0
 OneList =
     (shape : Shape) (events : List Line) → IsRun shape events → (me : ℕ) (m : Member) (place : ℕ) →
     slice_get (run shape events).members me ≡ Some m → place < m.durable.commit →
     (entry : Entry) × (command : Command) × (slice_get m.durable.log place ≡ Some entry)
-    × (slice_get (committed (run shape events)) place ≡ Some (Some command)) × StandsFor entry command
+    × (slice_get (committed (run shape events)) place ≡ Some (Some command)) × StandsFor shape.need me entry command
 
 -- the list that is committed after a front of the events is a front of the one that is committed in the end
 abbrev pub StaysCommitted : Type 0
 StaysCommitted =
     (shape : Shape) (events : List Line) → IsRun shape events → (count : ℕ) →
     IsFront (committed (run shape (take count events))) (committed (run shape events))
+
+-- The logs of any F + 1 members, whether they run or not, rebuild the value of each command that is committed: whatever entry of its
+-- term one of them has at its place stands for it, and one has the whole value, or as many as are needed have their fragments of it.
+abbrev pub AnyRebuild : Type 0
+AnyRebuild =
+    (shape : Shape) (events : List Line) → IsRun shape events → (who : ℕ → Bool) (place : ℕ) (command : Command) →
+    majority_of shape ≤ count_by who (members shape) → slice_get (committed (run shape events)) place ≡ Some (Some command) →
+    Rebuilds (run shape events) who place command
 
 -- no entry that a member removed stands in what a leader committed, in the remover's term or in a lower one
 abbrev pub RemovesUncommitted : Type 0

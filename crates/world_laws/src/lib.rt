@@ -1,10 +1,11 @@
-//! What the whole cluster promises, whatever its events: one list of commands is committed, for all members and for ever; no entry
-//! is removed that a leader of the remover's term or of a lower one commits; no term has two leaders; and clients are answered as by one
-//! map that took this list. Nothing here runs: `law_safe` and `law_replies` state it as their contracts, for every shape and every list
-//! of events in range. `specs/Laws.antt` has the parts; `docs/proofs/BRIDGE.md` tells the argument.
+//! What the whole cluster promises, whatever its events: one list of commands is committed, for all members and for ever; any F+1
+//! members rebuild it; no entry is removed that a leader of the remover's term or of a lower one commits; no term has two leaders; and
+//! clients are answered as by one map that took this list. Nothing here runs: `law_safe`, `law_rebuild` and `law_replies` state it as
+//! their contracts, for every shape and every list of events in range. `specs/Laws.antt` has the parts; `docs/proofs/BRIDGE.md` tells
+//! the argument.
 #![tactic(auto)]
 
-ghost use Rattle.world_laws.specs.Laws.{AllListed, OldNumbers, OneLeaderATerm, OneList, OneMap, RemovesUncommitted, StaysCommitted};
+ghost use Rattle.world_laws.specs.Laws.{AllListed, AnyRebuild, OldNumbers, OneLeaderATerm, OneList, OneMap, RemovesUncommitted, StaysCommitted};
 
 /// Every run is safe, whichever members go down, stop in a turn and start anew, and whatever the network loses, repeats or reorders.
 pub fn law_safe()
@@ -16,6 +17,13 @@ pub fn law_safe()
     ensures removes { RemovesUncommitted }
     // no term has two members that ever led it or prepared to
     ensures one_leader { OneLeaderATerm }
+{}
+
+/// What is committed outlives any F members: the logs of any F+1, whether they run or not, rebuild each value, whichever members go
+/// down, stop in a turn and start anew, and whatever the network loses, repeats or reorders.
+pub fn law_rebuild()
+    // one of them has the whole value, or k of them have their fragments of it, and none has anything else under its term and index
+    ensures { AnyRebuild }
 {}
 
 /// Clients are told what one map tells that took all that is committed, whichever members go down, stop in a turn and start anew, and

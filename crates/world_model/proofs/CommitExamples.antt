@@ -33,6 +33,17 @@ too_few = refl
 gap : committed_after (From 1 3 (Matched 2 1 1) ∷ From 2 3 (Matched 2 1 1) ∷ []) ≡ 1
 gap = refl
 
--- a part isn't counted
+-- parts on four of five aren't enough, also with two whole ones among them
 parts : committed_after (From 1 3 (Matched 1 2 2) ∷ From 2 3 (Matched 1 2 3) ∷ From 3 3 (Matched 1 2 2) ∷ []) ≡ 1
 parts = refl
+
+-- with k = 3 parts on all five are
+five_parts : committed_after (From 1 3 (Matched 1 2 0) ∷ From 2 3 (Matched 1 2 0) ∷ From 3 3 (Matched 1 2 0) ∷ From 4 3 (Matched 1 2 0) ∷ []) ≡ 3
+five_parts = refl
+
+-- with k = 2 four of five are, and three aren't
+four_of_two : new_commit (record { faults = 2; need = 2 }) 0 4 1 log (From 1 3 (Matched 1 2 0) ∷ From 2 3 (Matched 1 2 0) ∷ From 3 3 (Matched 1 2 0) ∷ []) ≡ 3
+four_of_two = refl
+
+three_of_two : new_commit (record { faults = 2; need = 2 }) 0 4 1 log (From 1 3 (Matched 1 2 0) ∷ From 2 3 (Matched 1 2 1) ∷ []) ≡ 1
+three_of_two = refl

@@ -1,8 +1,8 @@
 -- How far a leader may commit, by what it knows of who holds its entries.
-use Rattle.std.specs.Prelude.{ℕ, ◌+◌, ◌-◌, max, List, filter, length, Bool, true, false, ◌&&◌, ◌==◌, if◌then◌else◌, nat_le, Option, None, Some}
+use Rattle.std.specs.Prelude.{ℕ, ◌+◌, ◌-◌, max, List, filter, length, Bool, true, false, ◌&&◌, ◌||◌, ◌==◌, if◌then◌else◌, nat_le, Option, None, Some}
 use Rattle.std.specs.List.{count_by, fold, list_all, range_with_len}
 use Rattle.craft_base.specs.Knowledge.{Heard, held_form, members}
-use Rattle.craft_base.specs.Shape.{Shape, majority_of}
+use Rattle.craft_base.specs.Shape.{Shape, coded_quorum_of, majority_of}
 use Rattle.craft_base.specs.declared.command.Entry.{Entry}
 use Rattle.craft_base.specs.declared.command.Form.{Form}
 use Rattle.craft_base.specs.declared.command.Form.TheVariants as forms
@@ -29,10 +29,21 @@ abbrev pub is_held_whole : Held → Bool
 is_held_whole helds.Whole = true
 is_held_whole _ = false
 
--- whether enough members hold the entry at an index whole for it to be committed
+-- in some form
+abbrev pub is_held : Held → Bool
+is_held helds.Nothing = false
+is_held _ = true
+
+-- how many members are known to hold the entry at an index so
+abbrev pub holders : (Held → Bool) → Shape → ℕ → List Entry → List Heard → ℕ → ℕ
+holders test shape me log heard index = count_by (λ member. test (known_form me log heard index member)) (members shape)
+
+-- Whether enough members hold the entry at an index for it to be committed: F + 1 hold it whole, or F + k in some form. Of either,
+-- any F + 1 members have the whole value among them, or k parts, which rebuild it.
 abbrev pub is_enough : Shape → ℕ → List Entry → List Heard → ℕ → Bool
 is_enough shape me log heard index =
-    nat_le (majority_of shape) (count_by (λ member. is_held_whole (known_form me log heard index member)) (members shape))
+    nat_le (majority_of shape) (holders is_held_whole shape me log heard index)
+    || nat_le (coded_quorum_of shape) (holders is_held shape me log heard index)
 
 -- the indexes above a commit index, up to the log's last
 abbrev pub open_indexes : ℕ → List Entry → List ℕ

@@ -1,7 +1,10 @@
 -- What holds of every run.
-use Rattle.std.specs.Prelude.{◌≡◌, ◌≢◌, ℕ, ◌+◌, ◌-◌, ◌<◌, ◌≤◌, ◌⊎◌, List, [], ◌∷◌, ◌++◌, map, reverse, take, All, true, ◌&&◌, ◌==◌, nat_lt, if◌then◌else◌, Option, None, Some, slice_get}
-use Rattle.craft_base.specs.Shape.{Shape, IsShape}
+use Rattle.std.specs.Prelude.{◌≡◌, ◌≢◌, ℕ, ◌+◌, ◌-◌, ◌<◌, ◌≤◌, ◌⊎◌, List, [], ◌∷◌, ◌++◌, map, reverse, take, All, Bool, true, false, not, ◌&&◌, ◌==◌, nat_lt, if◌then◌else◌, Option, None, Some, slice_get}
+use Rattle.std.specs.List.{count_by}
+use Rattle.craft_base.specs.Knowledge.{members}
+use Rattle.craft_base.specs.Shape.{Shape, IsShape, majority_of}
 use Rattle.craft_base.specs.declared.command.Entry.{Entry}
+use Rattle.craft_base.specs.declared.command.Form.{Form}
 use Rattle.craft_base.specs.declared.command.Form.TheVariants as forms
 use Rattle.craft_base.specs.declared.command.Head.{Head}
 use Rattle.craft_base.specs.declared.command.Reply.{Reply}
@@ -11,7 +14,9 @@ use Rattle.entry_frames.specs.Logs.{entry_at, term_at}
 use Rattle.entry_frames.specs.declared.role.Role.{Role}
 use Rattle.entry_frames.specs.declared.role.Role.TheVariants.{Preparing, Leader}
 use Rattle.kv_apply.specs.Commands.{is_of, map_reply}
+use Rattle.rs_code.specs.Fragments.{fragment}
 use Rattle.world_model.specs.Nodes.{Volatile}
+use Rattle.world_model.specs.Quorums.{is_whole}
 use Rattle.world_model.specs.Spelling.{IsLineOf}
 use Rattle.world_model.specs.Traces.{Command, LeaderCommit, Proposal, Removal, Replied}
 use Rattle.world_model.specs.World.{Member, World, run}
@@ -75,16 +80,21 @@ committed_log w = let d = furthest born w.members in take d.commit d.log
 abbrev pub committed : World → List (Option Command)
 committed w = commands_of w.book 1 (committed_log w)
 
--- the entry is of the command's term, asks for the same, and holds the whole value
-abbrev pub StandsFor : Entry → Command → Type 0
-StandsFor entry command = (entry.term ≡ command.term) × (entry.head ≡ command.head) × (entry.form ≡ forms.Whole command.value)
+-- it is the whole value, or the value's fragment for that member, where so many fragments rebuild it
+abbrev pub Holds : (need member : ℕ) → Form → (value : List ℕ) → Type 0
+Holds need member (forms.Whole bytes) value = bytes ≡ value
+Holds need member (forms.Part bytes) value = bytes ≡ fragment value need member
+
+-- that member's entry is of the command's term, asks for the same, and holds its value so
+abbrev pub StandsFor : (need member : ℕ) → Entry → Command → Type 0
+StandsFor need member entry command = (entry.term ≡ command.term) × (entry.head ≡ command.head) × Holds need member entry.form command.value
 
 -- each member has, up to its commit index, an entry for each of these commands
 abbrev pub HoldsCommitted : World → Type 0
 HoldsCommitted w =
     (me : ℕ) (m : Member) (place : ℕ) → slice_get w.members me ≡ Some m → place < m.durable.commit →
     (entry : Entry) × (command : Command) × (slice_get m.durable.log place ≡ Some entry)
-    × (slice_get (committed w) place ≡ Some (Some command)) × StandsFor entry command
+    × (slice_get (committed w) place ≡ Some (Some command)) × StandsFor w.shape.need me entry command
 
 -- the first list is the beginning of the second
 abbrev pub IsFront : List (Option Command) → List (Option Command) → Type 0
@@ -93,6 +103,40 @@ IsFront front whole = (rest : List (Option Command)) × (front ++ rest ≡ whole
 -- what was committed stays: after each front of the events it was a front of what is committed in the end
 abbrev pub StaysCommitted : Shape → List Line → Type 0
 StaysCommitted shape events = (count : ℕ) → IsFront (committed (run shape (take count events))) (committed (run shape events))
+
+-- ---- what can be rebuilt
+
+abbrev pub log_of : Option Member → List Entry
+log_of None = []
+log_of (Some m) = m.durable.log
+
+-- whether it is an entry of that term, held in a form that passes the test
+abbrev pub is_held_as : (Form → Bool) → (term : ℕ) → Option Entry → Bool
+is_held_as test term None = false
+is_held_as test term (Some entry) = (entry.term == term) && test entry.form
+
+-- whether a member's log has an entry of that term at a place with its whole value, or with a fragment of it
+abbrev pub has_whole : World → (term place member : ℕ) → Bool
+has_whole w term place member = is_held_as is_whole term (slice_get (log_of (slice_get w.members member)) place)
+
+abbrev pub has_part : World → (term place member : ℕ) → Bool
+has_part w term place member = is_held_as (λ form. not (is_whole form)) term (slice_get (log_of (slice_get w.members member)) place)
+
+-- The logs of these members, whether they run or not, rebuild the value of the command at that place: whatever entry of its term one
+-- of them has there stands for it, and one has the whole value, or as many as are needed have its fragments.
+pub record Rebuilds (w : World) (who : ℕ → Bool) (place : ℕ) (command : Command) : Type 0 where
+  pub stand :
+      (me : ℕ) (m : Member) (entry : Entry) → who me ≡ true → slice_get w.members me ≡ Some m → slice_get m.durable.log place ≡ Some entry →
+      entry.term ≡ command.term → StandsFor w.shape.need me entry command
+  pub enough :
+      ((me : ℕ) × (who me ≡ true) × (has_whole w command.term place me ≡ true))
+      ⊎ (w.shape.need ≤ count_by (λ me. who me && has_part w command.term place me) (members w.shape))
+
+-- so do those of any F + 1 members for each command that is committed
+abbrev pub RebuildsCommitted : World → Type 0
+RebuildsCommitted w =
+    (who : ℕ → Bool) (place : ℕ) (command : Command) → majority_of w.shape ≤ count_by who (members w.shape) →
+    slice_get (committed w) place ≡ Some (Some command) → Rebuilds w who place command
 
 -- ---- what is removed
 
@@ -147,11 +191,12 @@ pub record AnswersAsOneMap (w : World) : Type 0 where
   pub are : committed w ≡ map Some commands
   pub replies : (r : Replied) → IsIn r w.replies → IsOfOneMap commands r.client r.seq r.reply
 
--- The run is safe: one list of commands is committed, for all members and for ever; no entry is removed that a leader of a term up
+-- The run is safe: one list of commands is committed, for all members and for ever, and any F + 1 members' logs rebuild it; no entry is removed that a leader of a term up
 -- to the remover's commits; clients are answered as by one map that took this list; and no term has two leaders.
 pub record IsSafe (shape : Shape) (events : List Line) : Type 0 where
   pub one_list : HoldsCommitted (run shape events)
   pub stays : StaysCommitted shape events
+  pub rebuilds : RebuildsCommitted (run shape events)
   pub removes : RemovesUncommitted (run shape events)
   pub replies : AnswersAsOneMap (run shape events)
   pub one_leader : OneLeaderATerm shape events

@@ -23,13 +23,14 @@ use Rattle.protocol.proofs.Messages.{agrees_at}
 use Rattle.protocol.proofs.Runs.{moves_trans, sound_reached}
 use Rattle.bridge.specs.Agreement.{AppendAgrees, NodeAgrees}
 use Rattle.bridge.specs.Bridges.{TurnBridged}
-use Rattle.bridge.specs.Traced.{AllStand, CommitAgrees, IsGone, MessageStands, ProposalAgrees, RemovalAgrees}
+use Rattle.bridge.specs.Traced.{AllStand, CommitAgrees, IsGone, MessageStands, ProposalAgrees, RemovalAgrees, holder}
 use Rattle.bridge.specs.Views.{log_seen}
 use Rattle.bridge.proofs.Book.Cutting.{gone}
 use Rattle.bridge.proofs.Book.Plain.{IsTraced, none_of_follower, silent_traced, stays_traced, turned}
 use Rattle.bridge.proofs.Book.Sent.{one_stands}
 use Rattle.bridge.proofs.Book.Standing.{stand_more}
-use Rattle.bridge.proofs.Book.Taken.{IsRemoved, IsTold, records_told, removals_in-append}
+use Rattle.bridge.proofs.Book.Completing.{removals_in-append}
+use Rattle.bridge.proofs.Book.Taken.{IsRemoved, IsTold, records_told}
 use Rattle.bridge.proofs.Rules.Applying.{grows_or_stays}
 use Rattle.bridge.proofs.Restarting.{restarts}
 use Rattle.bridge.proofs.Rules.Append.{entries_taken, follower_agrees, heard_append_bridged}
@@ -71,17 +72,17 @@ module _
       gone shape.faults g reached (c.index + place) entry.term member h n.durable.term run mine lost a.term term in
       subst (λ t. IsGone h t (c.index + place) entry.term) (sym removed.term) out
 
-  module _ {book : List Proposal} (stand : AllStand book 1 n.durable.log) (sent : AllStand book (prev + 1) entries) where
+  module _ {book : List Proposal} (stand : AllStand (holder shape member) book 1 n.durable.log) (sent : AllStand (holder shape member) book (prev + 1) entries) where
     -- an act that leaves the log as those records do, by them and by others that remove nothing
     taken_traced :
         (act : Act) (rest : List Record) → act.node.durable.term ≡ now.term → act.node.durable.log ≡ now.log → act.node.volatile.role ≡ Follower →
         act.records ≡ taken_records prev n.durable.log entries ++ rest → ((event : ℕ) → removals_in event member now rest ≡ []) →
-        ((more : List Proposal) → All (MessageStands more) act.sends) → IsTraced shape g member n.durable book act
+        ((more : List Proposal) → All (MessageStands shape more) act.sends) → IsTraced shape g member n.durable book act
     taken_traced act rest term log follows records none sends h run node event =
         let taken : IsTakenBy n.durable now (g.led n.durable.term) (prev + length entries) = entries_taken reached a prev prev_term commit entries told here in
         let within : prev ≤ length n.durable.log = leb-true _ _ (and_parts (nat_le prev (length n.durable.log)) _ here).0 in
-        let told_of : IsTold book event member n.durable (prev + length entries) (taken_records prev n.durable.log entries) =
-        records_told book event member n.durable entries prev within stand sent in
+        let told_of : IsTold (holder shape member) book event member n.durable (prev + length entries) (taken_records prev n.durable.log entries) =
+        records_told (holder shape member) book event member n.durable entries prev within stand sent in
         let more = proposals_in event act.node.volatile.role n.durable act.records in
         let all_removed : All (IsRemoved n.durable now (prev + length entries)) (removals_in event member n.durable act.records) =
         subst (λ it. All (IsRemoved n.durable now (prev + length entries)) (removals_in event member n.durable it)) (sym records)
@@ -94,7 +95,7 @@ module _
           removals = All-weaker (IsRemoved n.durable now (prev + length entries)) (RemovalAgrees h)
               (removed_agrees h run (node.term ∙ term ∙ taken.term) (node.log ∙ ap log_seen log)) _ all_removed;
           commits = none_of_follower (CommitAgrees h) act.node.volatile.role (all_commits_in event n.durable act.records) follows;
-          log = stand_more book more 1 act.node.durable.log (subst (AllStand book 1) (sym log) told_of.log);
+          log = stand_more (holder shape member) book more 1 act.node.durable.log (subst (AllStand (holder shape member) book 1) (sym log) told_of.log);
           sends = sends (book ++ more);
         }
 
@@ -106,9 +107,9 @@ module _
         (λ act. IsTraced shape g member n.durable book (followed_by (act_of_entries prev entries n) (λ it. followed_by act (act_of_match leader prev (length entries)))))
         (λ grows.
         taken_traced (followed_by (act_of_entries prev entries n) (λ it. followed_by (act_of_applying index taken) (act_of_match leader prev (length entries))))
-        (Commit index ∷ []) refl refl follows refl (λ event. refl) (λ more. one_stands more _ tt))
+        (Commit index ∷ []) refl refl follows refl (λ event. refl) (λ more. one_stands shape more _ tt))
         (taken_traced (followed_by (act_of_entries prev entries n) (λ it. followed_by (stays taken) (act_of_match leader prev (length entries))))
-        [] refl refl follows refl (λ event. refl) (λ more. one_stands more _ tt))
+        [] refl refl follows refl (λ event. refl) (λ more. one_stands shape more _ tt))
 
     suited_traced : (leader : ℕ) → n.volatile.role ≡ Follower → IsTraced shape g member n.durable book (act_of_suited leader prev commit entries n)
     suited_traced leader follows =
@@ -118,18 +119,18 @@ module _
 heard_append_traced :
     {shape : Shape} {g : protocol.History} {member : ℕ} {n : Node} {book : List Proposal} → Reached shape.faults g → NodeAgrees shape g member n →
     (leader prev prev_term commit : ℕ) (entries : List Entry) → AppendAgrees g n.durable.term prev prev_term commit entries →
-    AllStand book 1 n.durable.log → AllStand book (prev + 1) entries → n.volatile.role ≡ Follower →
+    AllStand (holder shape member) book 1 n.durable.log → AllStand (holder shape member) book (prev + 1) entries → n.volatile.role ≡ Follower →
     IsTraced shape g member n.durable book (act_of_heard_append leader prev prev_term commit entries n)
 heard_append_traced {shape = shape} {g = g} {member = member} {n = n} {book = book} reached a leader prev prev_term commit entries told stand sent follows =
     cond_both (has_before n.durable.log prev prev_term) (act_of_suited leader prev commit entries n) (act_of_refusal leader n)
     (IsTraced shape g member n.durable book)
     (λ here. suited_traced reached a prev prev_term commit entries told here stand sent leader follows)
-    (λ lacks. silent_traced n.durable stand (act_of_refusal leader n) refl refl (λ more log. one_stands more (message_of n (refusal n) leader) tt))
+    (λ lacks. silent_traced n.durable stand (act_of_refusal leader n) refl refl (λ more log. one_stands shape more (message_of n (refusal n) leader) tt))
 
 module _
     {shape : Shape} {g : protocol.History} {member : ℕ} {n : Node} {book : List Proposal} (reached : Reached shape.faults g) (a : NodeAgrees shape g member n)
     (leader prev prev_term commit : ℕ) (entries : List Entry) (apart : leader ≢ member)
-    (told : AppendAgrees g n.durable.term prev prev_term commit entries) (stand : AllStand book 1 n.durable.log) (sent : AllStand book (prev + 1) entries) where
+    (told : AppendAgrees g n.durable.term prev prev_term commit entries) (stand : AllStand (holder shape member) book 1 n.durable.log) (sent : AllStand (holder shape member) book (prev + 1) entries) where
   following_turned : TurnBridged shape g book member n.durable (act_of_following leader prev prev_term commit entries n)
   following_turned =
       let moves = restarts g member in

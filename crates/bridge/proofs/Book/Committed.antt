@@ -21,7 +21,7 @@ use Rattle.protocol.proofs.Logs.{agree_less, agree_trans}
 use Rattle.protocol.proofs.Slots.{front_take}
 use Rattle.protocol.proofs.Runs.{moves_trans, sound_reached}
 use Rattle.bridge.specs.Agreement.{NodeAgrees}
-use Rattle.bridge.specs.Traced.{AllStand, CommitAgrees, ProposalAgrees, RemovalAgrees}
+use Rattle.bridge.specs.Traced.{AllStand, CommitAgrees, ProposalAgrees, RemovalAgrees, holder}
 use Rattle.bridge.specs.Views.{log_seen, role_seen}
 use Rattle.bridge.proofs.Book.Plain.{IsTraced, all_won, none_won, silent_traced, stays_traced}
 use Rattle.bridge.proofs.Book.Sent.{append_if_any_stands, append_stands, one_stands}
@@ -75,7 +75,7 @@ module _
       )
 
   progress_traced :
-      {book : List Proposal} → AllStand book 1 n.durable.log → (receiver : ℕ) → IsTraced shape g member n.durable book (act_of_progress receiver n)
+      {book : List Proposal} → AllStand (holder shape member) book 1 n.durable.log → (receiver : ℕ) → IsTraced shape g member n.durable book (act_of_progress receiver n)
   progress_traced {book = book} stand receiver =
       let index = commit_of_leader n in
       grows_or_stays n index (λ act. IsTraced shape g member n.durable book (followed_by act (act_of_next receiver)))
@@ -83,20 +83,20 @@ module _
       let now = (act_of_applying index n).node in
       let c : LeaderCommit = record { event = event; term = n.durable.term; log = take index n.durable.log } in
       let more = proposals_in event n.volatile.role n.durable (Commit index ∷ []) in
-      let log : AllStand (book ++ more) 1 n.durable.log = stand_more book more 1 n.durable.log stand in
+      let log : AllStand (holder shape member) (book ++ more) 1 n.durable.log = stand_more (holder shape member) book more 1 n.durable.log stand in
       record {
         proposals = none_won (ProposalAgrees h) (has_won_term n.volatile.role) [] refl;
         removals = All-nil (RemovalAgrees h);
         commits = all_won (CommitAgrees h) (has_won_term n.volatile.role) (c ∷ [])
             (All-cons (CommitAgrees h) c [] (committed_agrees index event above h run node) (All-nil (CommitAgrees h)));
         log = log;
-        sends = append_if_any_stands (book ++ more) now log receiver;
+        sends = append_if_any_stands shape (book ++ more) (holder shape member) now log receiver;
       })
-      (silent_traced n.durable stand (followed_by (stays n) (act_of_next receiver)) refl refl (λ now log. append_if_any_stands now n log receiver))
+      (silent_traced n.durable stand (followed_by (stays n) (act_of_next receiver)) refl refl (λ now log. append_if_any_stands shape now (holder shape member) n log receiver))
 
 module _
     {shape : Shape} {g : protocol.History} {member : ℕ} (n : Node) {book : List Proposal} (reached : Reached shape.faults g)
-    (stand : AllStand book 1 n.durable.log) (sender : ℕ) where
+    (stand : AllStand (holder shape member) book 1 n.durable.log) (sender : ℕ) where
   pub matched_as_traced :
       (role : Role) (prev count mask : ℕ) → n.volatile.role ≡ role →
       NodeAgrees shape g member (node_hearing (log_heard n sender (Matched prev count mask)) n) →
@@ -113,4 +113,4 @@ module _
   refused_as_traced Leader next =
       let now = node_hearing (log_heard n sender (Refused next)) n in
       silent_traced n.durable stand (act_of_retry sender now) refl refl
-      (λ more log. one_stands more (append_to now sender) (append_stands more now log sender))
+      (λ more log. one_stands shape more (append_to now sender) (append_stands shape more (holder shape member) now log sender))

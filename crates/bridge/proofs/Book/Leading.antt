@@ -17,7 +17,7 @@ use Rattle.protocol.specs.Moves.{Allowed, Reached, Win, after}
 use Rattle.protocol.proofs.Counting.{put_same}
 use Rattle.protocol.proofs.Runs.{sound_after, sound_reached}
 use Rattle.bridge.specs.Agreement.{NodeAgrees}
-use Rattle.bridge.specs.Traced.{AllStand, ProposalAgrees}
+use Rattle.bridge.specs.Traced.{AllStand, ProposalAgrees, holder}
 use Rattle.bridge.proofs.Book.Adding.{adding_traced}
 use Rattle.bridge.proofs.Book.Plain.{IsTraced, silent_traced}
 use Rattle.bridge.proofs.Book.Sent.{appends_stand}
@@ -45,20 +45,20 @@ module _
       command_in_none book n.durable.term index (All-weaker (ProposalAgrees g) (IsElsewhere n.durable.term index) other book proposed)
 
   with_noop_traced :
-      {book : List Proposal} → AllStand book 1 n.durable.log → All (ProposalAgrees g) book →
+      {book : List Proposal} → AllStand (holder shape member) book 1 n.durable.log → All (ProposalAgrees g) book →
       IsTraced shape g member n.durable book (announcing n (recording (Add (noop n.durable.term)) (stays n)))
   with_noop_traced {book = book} stand proposed =
       let act = announcing n (recording (Add (noop n.durable.term)) (stays n)) in
       adding_traced n reached stand (noop n.durable.term) refl refl (nothing_found book proposed (length n.durable.log + 1)) (leading n) act.sends refl
-      (λ more log. appends_stand more act.node log)
+      (λ more log. appends_stand shape more (holder shape member) act.node log)
 
-  without_noop_traced : {book : List Proposal} → AllStand book 1 n.durable.log → IsTraced shape g member n.durable book (announcing n (stays n))
+  without_noop_traced : {book : List Proposal} → AllStand (holder shape member) book 1 n.durable.log → IsTraced shape g member n.durable book (announcing n (stays n))
   without_noop_traced stand =
       silent_traced n.durable stand (announcing n (stays n)) refl refl
-      (λ now log. appends_stand now (announcing n (stays n)).node log)
+      (λ now log. appends_stand shape now (holder shape member) (announcing n (stays n)).node log)
 
   pub leading_traced :
-      {book : List Proposal} → AllStand book 1 n.durable.log → All (ProposalAgrees g) book → IsTraced shape g member n.durable book (act_of_leading n)
+      {book : List Proposal} → AllStand (holder shape member) book 1 n.durable.log → All (ProposalAgrees g) book → IsTraced shape g member n.durable book (act_of_leading n)
   leading_traced {book = book} stand proposed =
       cond_both (nat_lt (length n.durable.log) last_place) (recording (Add (noop n.durable.term)) (stays n)) (stays n)
       (λ act. IsTraced shape g member n.durable book (announcing n act)) (λ room. with_noop_traced stand proposed) (λ full. without_noop_traced stand)

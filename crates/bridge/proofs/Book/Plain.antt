@@ -14,13 +14,13 @@ use Rattle.protocol.specs.History.{History}
 use Rattle.protocol.specs.Moves.{Moves}
 use Rattle.bridge.specs.Agreement.{NodeAgrees}
 use Rattle.bridge.specs.Bridges.{ActBridged, ActTraced, TurnBridged}
-use Rattle.bridge.specs.Traced.{AllStand, CommitAgrees, MessageStands, ProposalAgrees, RemovalAgrees}
+use Rattle.bridge.specs.Traced.{AllStand, CommitAgrees, MessageStands, ProposalAgrees, RemovalAgrees, holder}
 use Rattle.bridge.proofs.Book.Standing.{stand_more}
 
 -- an act of a member that had this durable state is traced, whatever moves from that history make its node agree
 abbrev pub IsTraced : Shape → History → (member : ℕ) → Durable → List Proposal → Act → Type 0
 IsTraced shape g member before book act =
-    (h : History) → Moves shape.faults g h → NodeAgrees shape h member act.node → (event : ℕ) → ActTraced h book event member before act
+    (h : History) → Moves shape.faults g h → NodeAgrees shape h member act.node → (event : ℕ) → ActTraced shape h book event member before act
 
 -- an act that is bridged, and traced
 pub turned :
@@ -48,17 +48,18 @@ none_of_follower P role xs e =
     subst (λ r. All P (if has_won_term r then xs else [])) (sym e) none
 
 -- what is sent stands where the log does
-abbrev pub SendsStand : Act → Type 0
-SendsStand act = (book : List Proposal) → AllStand book 1 act.node.durable.log → All (MessageStands book) act.sends
+abbrev pub SendsStand : Shape → (member : ℕ) → Act → Type 0
+SendsStand shape member act = (book : List Proposal) → AllStand (holder shape member) book 1 act.node.durable.log → All (MessageStands shape book) act.sends
 
-module _ {shape : Shape} {g : History} {member : ℕ} {book : List Proposal} (before : Durable) (stand : AllStand book 1 before.log) where
+module _ {shape : Shape} {g : History} {member : ℕ} {book : List Proposal} (before : Durable) (stand : AllStand (holder shape member) book 1 before.log) where
   pub plain_traced :
       (act : Act) → act.node.durable.log ≡ before.log → ((event : ℕ) → all_proposals_in event before act.records ≡ []) →
       ((event : ℕ) → removals_in event member before act.records ≡ []) → ((event : ℕ) → all_commits_in event before act.records ≡ []) →
-      SendsStand act → IsTraced shape g member before book act
+      SendsStand shape member act → IsTraced shape g member before book act
   plain_traced act same no_proposals no_removals no_commits sends h run node event =
       let more = proposals_in event act.node.volatile.role before act.records in
-      let log : AllStand (book ++ more) 1 act.node.durable.log = subst (AllStand (book ++ more) 1) (sym same) (stand_more book more 1 before.log stand) in
+      let log : AllStand (holder shape member) (book ++ more) 1 act.node.durable.log =
+      subst (AllStand (holder shape member) (book ++ more) 1) (sym same) (stand_more (holder shape member) book more 1 before.log stand) in
       record {
         proposals = none_won (ProposalAgrees h) (has_won_term act.node.volatile.role) (all_proposals_in event before act.records) (no_proposals event);
         removals = All-same (RemovalAgrees h) _ [] (no_removals event) (All-nil (RemovalAgrees h));
@@ -68,11 +69,11 @@ module _ {shape : Shape} {g : History} {member : ℕ} {book : List Proposal} (be
       }
 
   -- an act that records nothing
-  pub silent_traced : (act : Act) → act.node.durable.log ≡ before.log → act.records ≡ [] → SendsStand act → IsTraced shape g member before book act
+  pub silent_traced : (act : Act) → act.node.durable.log ≡ before.log → act.records ≡ [] → SendsStand shape member act → IsTraced shape g member before book act
   silent_traced act same none sends =
       plain_traced act same (λ event. subst (λ records. all_proposals_in event before records ≡ []) (sym none) refl)
       (λ event. subst (λ records. removals_in event member before records ≡ []) (sym none) refl)
       (λ event. subst (λ records. all_commits_in event before records ≡ []) (sym none) refl) sends
 
   pub stays_traced : (n : Node) → n.durable.log ≡ before.log → IsTraced shape g member before book (stays n)
-  stays_traced n same = silent_traced (stays n) same refl (λ more log. All-nil (MessageStands more))
+  stays_traced n same = silent_traced (stays n) same refl (λ more log. All-nil (MessageStands shape more))

@@ -1,20 +1,18 @@
 -- Entries that stand in the book: in one that grew, in parts of a log, and at a place.
-use Rattle.std.proofs.Common.{◌≡◌, ℕ, zero, suc, ◌+◌, ◌&&◌, ◌==◌, Bool, true, false, if◌then◌else◌, List, [], ◌∷◌, ◌++◌, length, take, drop, Option, None, Some, slice_get, refl, ap, subst, ◌∙◌, arith}
+use Rattle.std.proofs.Common.{◌≡◌, ℕ, zero, suc, ◌+◌, ◌&&◌, ◌==◌, Bool, true, false, if◌then◌else◌, List, [], ◌∷◌, ◌++◌, length, take, drop, Option, None, Some, slice_get, refl, subst, arith}
 use Rattle.std.specs.List.{All}
 use Rattle.std.proofs.lemmas.Bool.{cond_both, and_parts, and_from, eqb-true, eq-eqb}
 use Rattle.std.proofs.lemmas.List.Elements.{All-head, All-tail}
 use Rattle.std.proofs.lemmas.Option.{same_Some}
+use Rattle.craft_base.specs.Shape.{Shape}
 use Rattle.craft_base.specs.declared.command.Entry.{Entry}
-use Rattle.craft_base.specs.declared.command.Form.{Form}
-use Rattle.craft_base.specs.declared.command.Form.TheVariants as forms
 use Rattle.entry_frames.specs.declared.message.Message.{Message}
 use Rattle.entry_frames.specs.declared.message.Message.TheVariants as messages
 use Rattle.entry_frames.specs.declared.peer.Peer.{Peer}
 use Rattle.entry_frames.specs.declared.peer.Peer.TheVariants as peers
-use Rattle.world_model.specs.Rules.Append.{completion, completion_of, completions, is_same_head}
 use Rattle.world_model.specs.Safety.{command_in}
 use Rattle.world_model.specs.Traces.{Command, Proposal}
-use Rattle.bridge.specs.Traced.{AllStand, MessageStands, PeerStands, StandsAt}
+use Rattle.bridge.specs.Traced.{AllStand, Holder, MessageStands, PeerStands, StandsAt, holder}
 
 -- ---- what is found in a book
 
@@ -65,79 +63,60 @@ command_in_new (q ∷ book) p e =
 
 -- ---- in a book that grew
 
-stands_more : (book more : List Proposal) (index : ℕ) (entry : Entry) → StandsAt book index entry → StandsAt (book ++ more) index entry
-stands_more book more index entry stands = (stands.0, command_in_more book more entry.term index stands.0 stands.1, stands.2)
+module _ (at : Holder) where
+  stands_more : (book more : List Proposal) (index : ℕ) (entry : Entry) → StandsAt at book index entry → StandsAt at (book ++ more) index entry
+  stands_more book more index entry stands = (stands.0, command_in_more book more entry.term index stands.0 stands.1, stands.2)
 
-pub stand_more : (book more : List Proposal) (index : ℕ) (entries : List Entry) → AllStand book index entries → AllStand (book ++ more) index entries
-stand_more book more index [] stand = tt
-stand_more book more index (entry ∷ entries) stand =
-    (stands_more book more index entry stand.0, stand_more book more (index + 1) entries stand.1)
+  pub stand_more : (book more : List Proposal) (index : ℕ) (entries : List Entry) → AllStand at book index entries → AllStand at (book ++ more) index entries
+  stand_more book more index [] stand = tt
+  stand_more book more index (entry ∷ entries) stand =
+      (stands_more book more index entry stand.0, stand_more book more (index + 1) entries stand.1)
 
-peer_more : (book more : List Proposal) (body : Peer) → PeerStands book body → PeerStands (book ++ more) body
-peer_more book more (peers.Append prev prev_term commit entries) stand = stand_more book more (prev + 1) entries stand
-peer_more book more (peers.Vote last_term last) stand = tt
-peer_more book more (peers.VoteReply granted) stand = tt
-peer_more book more (peers.Matched prev count mask) stand = tt
-peer_more book more (peers.Refused next) stand = tt
-peer_more book more (peers.Ask start) stand = tt
-peer_more book more (peers.Answer start last slots) stand = tt
+  peer_more : (book more : List Proposal) (body : Peer) → PeerStands at book body → PeerStands at (book ++ more) body
+  peer_more book more (peers.Append prev prev_term commit entries) stand = stand_more book more (prev + 1) entries stand
+  peer_more book more (peers.Vote last_term last) stand = tt
+  peer_more book more (peers.VoteReply granted) stand = tt
+  peer_more book more (peers.Matched prev count mask) stand = tt
+  peer_more book more (peers.Refused next) stand = tt
+  peer_more book more (peers.Ask start) stand = tt
+  peer_more book more (peers.Answer start last slots) stand = tt
 
-pub message_more : (book more : List Proposal) (m : Message) → MessageStands book m → MessageStands (book ++ more) m
-message_more book more (messages.Peer sender receiver term body) stand = peer_more book more body stand
-message_more book more (messages.Request receiver request) stand = tt
-message_more book more (messages.Answered sender client seq reply) stand = tt
+pub message_more : (shape : Shape) (book more : List Proposal) (m : Message) → MessageStands shape book m → MessageStands shape (book ++ more) m
+message_more shape book more (messages.Peer sender receiver term body) stand = peer_more (holder shape receiver) book more body stand
+message_more shape book more (messages.Request receiver request) stand = tt
+message_more shape book more (messages.Answered sender client seq reply) stand = tt
 
 -- ---- parts of a log
 
-module _ (book : List Proposal) where
-  pub stand_at_index : (one other : ℕ) (entries : List Entry) → one ≡ other → AllStand book one entries → AllStand book other entries
-  stand_at_index one other entries e stand = subst (λ index. AllStand book index entries) e stand
+module _ (at : Holder) (book : List Proposal) where
+  pub stand_at_index : (one other : ℕ) (entries : List Entry) → one ≡ other → AllStand at book one entries → AllStand at book other entries
+  stand_at_index one other entries e stand = subst (λ index. AllStand at book index entries) e stand
 
   pub stand_append :
-      (index : ℕ) (entries more : List Entry) → AllStand book index entries → AllStand book (index + length entries) more →
-      AllStand book index (entries ++ more)
+      (index : ℕ) (entries more : List Entry) → AllStand at book index entries → AllStand at book (index + length entries) more →
+      AllStand at book index (entries ++ more)
   stand_append index [] more stand rest = stand_at_index (index + 0) index more (omega arith) rest
   stand_append index (entry ∷ entries) more stand rest =
       (stand.0, stand_append (index + 1) entries more stand.1 (stand_at_index (index + suc (length entries)) (index + 1 + length entries) more (omega arith) rest))
 
-  pub stand_drop : (index n : ℕ) (entries : List Entry) → AllStand book index entries → AllStand book (index + n) (drop n entries)
+  pub stand_drop : (index n : ℕ) (entries : List Entry) → AllStand at book index entries → AllStand at book (index + n) (drop n entries)
   stand_drop index zero entries stand = stand_at_index index (index + 0) entries (omega arith) stand
   stand_drop index (suc n) [] stand = tt
   stand_drop index (suc n) (entry ∷ entries) stand =
       stand_at_index (index + 1 + n) (index + suc n) (drop n entries) (omega arith) (stand_drop (index + 1) n entries stand.1)
 
-  pub stand_take : (index n : ℕ) (entries : List Entry) → AllStand book index entries → AllStand book index (take n entries)
+  pub stand_take : (index n : ℕ) (entries : List Entry) → AllStand at book index entries → AllStand at book index (take n entries)
   stand_take index zero entries stand = tt
   stand_take index (suc n) [] stand = tt
   stand_take index (suc n) (entry ∷ entries) stand = (stand.0, stand_take (index + 1) n entries stand.1)
 
   pub stand_place :
-      (index : ℕ) (entries : List Entry) (place : ℕ) (entry : Entry) → AllStand book index entries → slice_get entries place ≡ Some entry →
-      StandsAt book (index + place) entry
+      (index : ℕ) (entries : List Entry) (place : ℕ) (entry : Entry) → AllStand at book index entries → slice_get entries place ≡ Some entry →
+      StandsAt at book (index + place) entry
   stand_place index [] place entry stand e = cc
   stand_place index (first ∷ entries) zero entry stand e =
       let same : index ≡ index + 0 = omega arith in
-      subst (λ i. StandsAt book i entry) same (subst (StandsAt book index) (same_Some first entry e) stand.0)
+      subst (λ i. StandsAt at book i entry) same (subst (StandsAt at book index) (same_Some first entry e) stand.0)
   stand_place index (first ∷ entries) (suc place) entry stand e =
       let same : index + 1 + place ≡ index + suc place = omega arith in
-      subst (λ i. StandsAt book i entry) same (stand_place (index + 1) entries place entry stand.1 e)
-
--- ---- an entry that stands is whole
-
-whole_stays : (index : ℕ) (own sent : Form) (bytes : List ℕ) → own ≡ forms.Whole bytes → completion_of index own sent ≡ []
-whole_stays index (forms.Part part) sent bytes e = cc
-whole_stays index (forms.Whole value) sent bytes e = refl
-
-entry_stays : (index : ℕ) (own entry : Entry) (bytes : List ℕ) → own.form ≡ forms.Whole bytes → completion index own entry ≡ []
-entry_stays index own entry bytes e =
-    cond_both (is_same_head own.head entry.head) (completion_of index own.form entry.form) [] (λ records. records ≡ [])
-    (λ same. whole_stays index own.form entry.form bytes e) (λ other. refl)
-
--- so of entries that stand none becomes whole
-pub no_completions :
-    (book : List Proposal) (at index : ℕ) (own entries : List Entry) → AllStand book at own → completions index own entries ≡ []
-no_completions book at index [] entries stand = refl
-no_completions book at index (first ∷ own) [] stand = refl
-no_completions book at index (first ∷ own) (entry ∷ entries) stand =
-    ap (λ records. records ++ completions (index + 1) own entries) (entry_stays index first entry stand.0.0.value stand.0.2.2)
-    ∙ no_completions book (at + 1) (index + 1) own entries stand.1
+      subst (λ i. StandsAt at book i entry) same (stand_place (index + 1) entries place entry stand.1 e)

@@ -30,7 +30,7 @@ use Rattle.protocol.specs.Moves.{Reached}
 use Rattle.protocol.proofs.Runs.{moves_trans}
 use Rattle.bridge.specs.Agreement.{MessageAgrees, NodeAgrees, SaidAgrees}
 use Rattle.bridge.specs.Bridges.{ActBridged, ActTraced, TurnBridged}
-use Rattle.bridge.specs.Traced.{AllStand, MessageStands, PeerStands, ProposalAgrees}
+use Rattle.bridge.specs.Traced.{AllStand, MessageStands, PeerStands, ProposalAgrees, holder}
 use Rattle.bridge.proofs.Book.Append.{append_as_turned}
 use Rattle.bridge.proofs.Book.Committed.{matched_as_traced, refused_as_traced}
 use Rattle.bridge.proofs.Book.Kept.{proposals_stay}
@@ -47,20 +47,20 @@ use Rattle.bridge.proofs.Steps.{reached_grows, then_moved, unmoved_stays}
 
 -- ---- a tick
 
-module _ {shape : Shape} {g : History} {member : ℕ} {book : List Proposal} (n : Node) (stand : AllStand book 1 n.durable.log) where
+module _ {shape : Shape} {g : History} {member : ℕ} {book : List Proposal} (n : Node) (stand : AllStand (holder shape member) book 1 n.durable.log) where
   waiting_traced : (word : ℕ) → IsTraced shape g member n.durable book (act_of_waiting word n)
   waiting_traced word =
       cond_both (is_due n.volatile.quiet word n.durable.term) (act_of_election n) (stays n) (IsTraced shape g member n.durable book)
       (λ due.
       plain_traced n.durable stand (act_of_election n) refl (λ event. refl) (λ event. refl) (λ event. refl)
-      (λ more log. to_others_stand more (act_of_candidacy n).node (peers.Vote (last_term n.durable.log) (last_index n.durable.log)) tt))
+      (λ more log. to_others_stand shape more (act_of_candidacy n).node (peers.Vote (last_term n.durable.log) (last_index n.durable.log)) (λ receiver. tt)))
       (λ early. stays_traced n.durable stand n refl)
 
   saying_traced : IsTraced shape g member n.durable book (act_of_saying n)
-  saying_traced = silent_traced n.durable stand (act_of_saying n) refl refl (λ more log. appends_stand more n log)
+  saying_traced = silent_traced n.durable stand (act_of_saying n) refl refl (λ more log. appends_stand shape more (holder shape member) n log)
 
 tick_as_traced :
-    {shape : Shape} {g : History} {member : ℕ} {book : List Proposal} (role : Role) (word : ℕ) (n : Node) → AllStand book 1 n.durable.log →
+    {shape : Shape} {g : History} {member : ℕ} {book : List Proposal} (role : Role) (word : ℕ) (n : Node) → AllStand (holder shape member) book 1 n.durable.log →
     IsTraced shape g member n.durable book (act_of_tick_as role word n)
 tick_as_traced Follower word n stand = waiting_traced (waiting_node n) stand word
 tick_as_traced Candidate word n stand = waiting_traced (waiting_node n) stand word
@@ -69,27 +69,27 @@ tick_as_traced Leader word n stand = saying_traced (node_hearing Beat n) stand
 
 pub tick_turned :
     {shape : Shape} {g : History} {member : ℕ} {n : Node} {book : List Proposal} (word : ℕ) → Reached shape.faults g → NodeAgrees shape g member n →
-    AllStand book 1 n.durable.log → TurnBridged shape g book member n.durable (act_of_tick word n)
+    AllStand (holder shape member) book 1 n.durable.log → TurnBridged shape g book member n.durable (act_of_tick word n)
 tick_turned {n = n} word reached a stand = turned (tick_bridged word reached a) (tick_as_traced n.volatile.role word n stand)
 
 -- ---- a message in the node's own term
 
-module _ {shape : Shape} {g : History} {member : ℕ} {book : List Proposal} (n : Node) (stand : AllStand book 1 n.durable.log) where
+module _ {shape : Shape} {g : History} {member : ℕ} {book : List Proposal} (n : Node) (stand : AllStand (holder shape member) book 1 n.durable.log) where
   grant_traced : (candidate : ℕ) (vote : Option ℕ) → IsTraced shape g member n.durable book
       (sending (message_of n (peers.VoteReply true) candidate ∷ []) (keeping (record n.volatile { quiet = 0 }) (act_of_vote_from vote candidate n)))
   grant_traced candidate None =
       plain_traced n.durable stand _ refl (λ event. refl) (λ event. refl) (λ event. refl)
-      (λ more log. one_stands more (message_of n (peers.VoteReply true) candidate) tt)
+      (λ more log. one_stands shape more (message_of n (peers.VoteReply true) candidate) tt)
   grant_traced candidate (Some voted) =
       plain_traced n.durable stand _ refl (λ event. refl) (λ event. refl) (λ event. refl)
-      (λ more log. one_stands more (message_of n (peers.VoteReply true) candidate) tt)
+      (λ more log. one_stands shape more (message_of n (peers.VoteReply true) candidate) tt)
 
   vote_request_traced : (candidate last_of last : ℕ) → IsTraced shape g member n.durable book (act_of_vote_request n candidate last_of last)
   vote_request_traced candidate last_of last =
       cond_both (is_grantor n candidate last_of last) (act_of_grant candidate n) (act_of_vote_refusal candidate n) (IsTraced shape g member n.durable book)
       (λ granted. grant_traced candidate n.durable.vote)
       (λ refused. silent_traced n.durable stand (act_of_vote_refusal candidate n) refl refl
-      (λ more log. one_stands more (message_of n (peers.VoteReply false) candidate) tt))
+      (λ more log. one_stands shape more (message_of n (peers.VoteReply false) candidate) tt))
 
   count_traced :
       Reached shape.faults g → NodeAgrees shape g member n → All (ProposalAgrees g) book → n.volatile.role ≡ Candidate →
@@ -100,7 +100,7 @@ module _ {shape : Shape} {g : History} {member : ℕ} {book : List Proposal} (n 
 
 vote_reply_as_traced :
     {shape : Shape} {g : History} {member : ℕ} {book : List Proposal} (role : Role) (sender : ℕ) (granted : Bool) (n : Node) →
-    AllStand book 1 n.durable.log → Reached shape.faults g → NodeAgrees shape g member (node_hearing (vote_heard n sender granted) n) →
+    AllStand (holder shape member) book 1 n.durable.log → Reached shape.faults g → NodeAgrees shape g member (node_hearing (vote_heard n sender granted) n) →
     All (ProposalAgrees g) book → n.volatile.role ≡ role → IsTraced shape g member n.durable book (act_of_vote_reply_as role n sender granted)
 vote_reply_as_traced Follower sender granted n stand reached a proposed e = stays_traced n.durable stand n refl
 vote_reply_as_traced Candidate sender granted n stand reached a proposed e =
@@ -112,9 +112,9 @@ vote_reply_as_traced Leader sender granted n stand reached a proposed e =
 
 module _
     {shape : Shape} {g : History} {member : ℕ} {n : Node} {book : List Proposal} (reached : Reached shape.faults g) (is : IsShape shape)
-    (a : NodeAgrees shape g member n) (stand : AllStand book 1 n.durable.log) (proposed : All (ProposalAgrees g) book) where
+    (a : NodeAgrees shape g member n) (stand : AllStand (holder shape member) book 1 n.durable.log) (proposed : All (ProposalAgrees g) book) where
   peer_turned :
-      (sender : ℕ) (body : Peer) → SaidAgrees g sender member n.durable.term body → PeerStands book body →
+      (sender : ℕ) (body : Peer) → SaidAgrees g sender member n.durable.term body → PeerStands (holder shape member) book body →
       TurnBridged shape g book member n.durable (act_of_peer n sender body)
   peer_turned sender (peers.Vote last_of last) told sent =
       turned (vote_request_bridged reached a sender told.apart last_of last told.body_agrees) (vote_request_traced n stand sender last_of last)
@@ -136,12 +136,12 @@ module _
 
 -- a term that is recorded first leaves what is traced as it is
 behind_term :
-    (h : History) (book : List Proposal) (event member at : ℕ) (n : Node) (rule : Node → Act) →
-    ActTraced h book event member (act_of_term at n).node.durable (rule (act_of_term at n).node) →
-    ActTraced h book event member n.durable (followed_by (act_of_term at n) rule)
-behind_term h book event member at n rule =
+    (shape : Shape) (h : History) (book : List Proposal) (event member at : ℕ) (n : Node) (rule : Node → Act) →
+    ActTraced shape h book event member (act_of_term at n).node.durable (rule (act_of_term at n).node) →
+    ActTraced shape h book event member n.durable (followed_by (act_of_term at n) rule)
+behind_term shape h book event member at n rule =
     cond_both (nat_lt n.durable.term at) (act_of_higher_term at n) (stays n)
-    (λ act. ActTraced h book event member act.node.durable (rule act.node) → ActTraced h book event member n.durable (followed_by act rule))
+    (λ act. ActTraced shape h book event member act.node.durable (rule act.node) → ActTraced shape h book event member n.durable (followed_by act rule))
     (λ higher t. record { proposals = t.proposals; removals = t.removals; commits = t.commits; log = t.log; sends = t.sends })
     (λ same t. record { proposals = t.proposals; removals = t.removals; commits = t.commits; log = t.log; sends = t.sends })
 
@@ -150,8 +150,8 @@ term_keeps at n = cond_both (nat_lt n.durable.term at) (act_of_higher_term at n)
 
 module _
     {shape : Shape} {g : History} {n : Node} {from to at : ℕ} {body : Peer} {book : List Proposal} (reached : Reached shape.faults g) (is : IsShape shape)
-    (a : NodeAgrees shape g to n) (told : SaidAgrees g from to at body) (stand : AllStand book 1 n.durable.log) (proposed : All (ProposalAgrees g) book)
-    (sent : PeerStands book body) where
+    (a : NodeAgrees shape g to n) (told : SaidAgrees g from to at body) (stand : AllStand (holder shape to) book 1 n.durable.log) (proposed : All (ProposalAgrees g) book)
+    (sent : PeerStands (holder shape to) book body) where
   current_turned : nat_lt at n.durable.term ≡ false → TurnBridged shape g book to n.durable (followed_by (act_of_term at n) (λ now. act_of_peer now from body))
   current_turned current =
       let first : ActBridged shape g to (act_of_term at n) = term_bridged a at in
@@ -160,12 +160,12 @@ module _
       let still : SaidAgrees h from to at body = message_stays grows (messages.Peer from to at body) told in
       let own : SaidAgrees h from to (act_of_term at n).node.durable.term body = subst (λ t. SaidAgrees h from to t body) (sym (caught_up n at current)) still in
       let later : Reached shape.faults h = moves_trans shape.faults _ g h reached (first.moves).run in
-      let log : AllStand book 1 (act_of_term at n).node.durable.log = subst (AllStand book 1) (sym (term_keeps at n)) stand in
+      let log : AllStand (holder shape to) book 1 (act_of_term at n).node.durable.log = subst (AllStand (holder shape to) book 1) (sym (term_keeps at n)) stand in
       let next : TurnBridged shape h book to (act_of_term at n).node.durable (act_of_peer (act_of_term at n).node from body) =
       peer_turned later is first.node log (proposals_stay grows book proposed) from body own sent in
       record {
         bridged = then_moved reached (act_of_term at n) (λ now. act_of_peer now from body) first next.bridged;
-        traced = λ event. behind_term (next.bridged).history book event to at n (λ now. act_of_peer now from body) (next.traced event);
+        traced = λ event. behind_term shape (next.bridged).history book event to at n (λ now. act_of_peer now from body) (next.traced event);
       }
 
   said_turned : TurnBridged shape g book to n.durable (act_of_message (messages.Peer from to at body) n)
@@ -174,13 +174,13 @@ module _
       (TurnBridged shape g book to n.durable)
       (λ lower.
       turned (lower_term_bridged a from body told.apart)
-      (silent_traced n.durable stand (act_of_lower_term n from body) refl refl (λ more log. stale_replies_stand more n from body)))
+      (silent_traced n.durable stand (act_of_lower_term n from body) refl refl (λ more log. stale_replies_stand shape more n from body)))
       current_turned
 
 -- a message comes to the member that it is for
 pub message_turned :
     {shape : Shape} {g : History} {n : Node} {book : List Proposal} (m : Message) → Reached shape.faults g → IsShape shape →
-    NodeAgrees shape g (receiver_byte m) n → MessageAgrees g m → AllStand book 1 n.durable.log → All (ProposalAgrees g) book → MessageStands book m →
+    NodeAgrees shape g (receiver_byte m) n → MessageAgrees g m → AllStand (holder shape (receiver_byte m)) book 1 n.durable.log → All (ProposalAgrees g) book → MessageStands shape book m →
     TurnBridged shape g book (receiver_byte m) n.durable (act_of_message m n)
 message_turned (messages.Peer from to at body) reached is a told stand proposed sent = said_turned reached is a told stand proposed sent
 message_turned {n = n} (messages.Request receiver request) reached is a told stand proposed sent = turned (unmoved_stays a) (stays_traced n.durable stand n refl)

@@ -4,14 +4,13 @@ use Rattle.std.proofs.Common.{◌≡◌, ℕ, true, List, [], ◌∷◌, ◌++�
 use Rattle.std.specs.List.{All}
 use Rattle.std.proofs.lemmas.Bool.{cond_both}
 use Rattle.std.proofs.lemmas.List.Elements.{All-append, All-cons, All-nil}
-use Rattle.std.proofs.lemmas.Option.{same_Some}
 use Rattle.craft_base.specs.declared.command.Head.{Head}
 use Rattle.craft_base.specs.declared.command.Reply.{Reply}
 use Rattle.craft_base.specs.declared.command.Reply.TheVariants as replies
 use Rattle.craft_base.specs.declared.command.Request.{Request}
 use Rattle.entry_frames.specs.declared.role.Role.{Role}
 use Rattle.entry_frames.specs.declared.role.Role.TheVariants.{Follower, Candidate, Preparing, Leader}
-use Rattle.kv_apply.specs.Commands.{greatest_number, is_asked, kept_of, map_outcome, told}
+use Rattle.kv_apply.specs.Commands.{greatest_number, is_asked, kept_of, map_outcome}
 use Rattle.kv_apply.specs.Laws.{IsKept, TellsIndexes, is_outrun}
 use Rattle.kv_apply.specs.declared.outcome.Kept.{Kept}
 use Rattle.kv_apply.specs.declared.outcome.Kept.TheVariants as keeps
@@ -21,7 +20,7 @@ use Rattle.kv_apply.proofs.Within.{same_within}
 use Rattle.world_model.specs.Nodes.{Node}
 use Rattle.world_model.specs.Rules.Applying.{reply_of}
 use Rattle.world_model.specs.Rules.Call.{act_of_asking, act_of_call, act_of_call_as, act_of_reply, act_of_request, applied_heads, entry_for, is_busy, is_full, reply_for}
-use Rattle.world_model.specs.Safety.{heads_in, value_in}
+use Rattle.world_model.specs.Safety.{heads_in}
 use Rattle.world_model.specs.Traces.{Command}
 use Rattle.world_model.specs.declared.call.Called.{Called}
 use Rattle.bridge.proofs.Replies.Calls.{CallStands, CallsStand, IsToldBy, added_stands, calls_more, if_any_told}
@@ -69,7 +68,7 @@ module _ (place : ℕ) (r : Request) (n : Node) (calls : IsAnswering n) where
           is = ap (map_outcome r.client r.seq) applied_are ∙ kept.1;
           indexes = indexes;
           tells =
-              same_Some reply (told (value_in commands) o) (sym is ∙ told_by_commands n.durable.log n.durable.commit commands stand o indexes);
+              told_by_commands n.durable.log n.durable.commit commands stand o indexes reply is;
         }))
 
   -- ---- a request that is added

@@ -6,7 +6,7 @@ use Rattle.std.specs.Option.{option_to_list}
 use Rattle.std.proofs.lemmas.Bool.{cases_Bool, eqb-true}
 use Rattle.std.proofs.lemmas.List.{length-map, length-reverse}
 use Rattle.std.proofs.lemmas.List.Elements.{All-append, All-cons, All-filter, All-head, All-nil, All-same, All-tail, All-weaker}
-use Rattle.std.proofs.lemmas.Option.{same_Some, slice_get_within}
+use Rattle.std.proofs.lemmas.Option.{slice_get_within}
 use Rattle.craft_base.specs.declared.command.Entry.{Entry}
 use Rattle.craft_base.specs.declared.command.Head.{Head}
 use Rattle.craft_base.specs.declared.command.Reply.{Reply}
@@ -134,7 +134,7 @@ module _ (log : List Entry) (place : ℕ) (entry : Entry) (here : slice_get log 
         let o : Outcome = answer entry.head earlier in
         let by : IsAnswer entry.head (entry.head ∷ earlier) o = answered_by_one_map entry.head earlier in
         let same : reply ≡ told (value_in commands) o =
-        same_Some reply (told (value_in commands) o) (sym is ∙ told_by_commands log (suc place) commands stand o indexes_here) in
+        told_by_commands log (suc place) commands stand o indexes_here reply is in
         elim (cases_Bool (is_outrun entry.head.seq (greatest_number entry.head.client (entry.head ∷ earlier)))) [
           | inl outrun ↦ inr (inl (
             greater_in entry.head.client entry.head.seq commands

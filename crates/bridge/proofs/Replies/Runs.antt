@@ -13,7 +13,7 @@ use Rattle.world_model.specs.declared.line.Line.{Line}
 use Rattle.protocol.specs.History.{History}
 use Rattle.protocol.specs.Moves.{Reached}
 use Rattle.bridge.specs.Agreement.{WorldAgrees}
-use Rattle.bridge.specs.Traced.{AllStand}
+use Rattle.bridge.specs.Traced.{AllStand, Holder}
 use Rattle.bridge.proofs.Book.Standing.{stand_take}
 use Rattle.bridge.proofs.Furthest.{IsCommitted, furthest_committed}
 use Rattle.bridge.proofs.Replies.Lists.{front_of_commands, is_in}
@@ -39,11 +39,11 @@ run_answers shape listed (line ∷ events) w a within holds fronts =
 
 -- entries that stand in the book have a command each
 each_listed :
-    (book : List Proposal) (index : ℕ) (log : List Entry) → AllStand book index log →
+    (at : Holder) (book : List Proposal) (index : ℕ) (log : List Entry) → AllStand at book index log →
     (commands : List Command) × (commands_of book index log ≡ map Some commands)
-each_listed book index [] stand = ([], refl)
-each_listed book index (entry ∷ log) stand =
-    let rest = each_listed book (index + 1) log stand.1 in (
+each_listed at book index [] stand = ([], refl)
+each_listed at book index (entry ∷ log) stand =
+    let rest = each_listed at book (index + 1) log stand.1 in (
       stand.0.0 ∷ rest.0,
       ap (λ it. it ∷ commands_of book (index + 1) log) stand.0.1 ∙ ap (λ it. Some stand.0.0 ∷ it) rest.1,
     )
@@ -52,7 +52,7 @@ pub answers_as_one_map : {shape : Shape} {h : History} {w : World} → Reached s
 answers_as_one_map {shape = shape} {h = h} {w = w} reached a answers =
     let d : Durable = furthest born w.members in
     let most : IsCommitted shape h w d = furthest_committed reached a in
-    let list = each_listed w.book 1 (take d.commit d.log) (stand_take w.book 1 d.commit d.log most.stand) in
+    let list = each_listed most.at w.book 1 (take d.commit d.log) (stand_take most.at w.book 1 d.commit d.log most.stand) in
     record {
       commands = list.0;
       are = list.1;

@@ -1,23 +1,39 @@
 -- Entries that stand for commands, one by one: what an outcome is told as by the log is what the commands tell.
-use Rattle.std.proofs.Common.{◌≡◌, ℕ, zero, suc, ◌-◌, ◌<◌, min, List, [], ◌∷◌, ◌++◌, length, map, reverse, take, Option, Some, slice_get, refl, sym, ap, subst, ◌∙◌, arith, length-take}
+use Rattle.std.proofs.Common.{◌≡◌, ℕ, zero, suc, ◌-◌, ◌<◌, min, List, [], ◌∷◌, ◌++◌, length, map, reverse, take, Option, None, Some, slice_get, refl, sym, ap, subst, ◌∙◌, arith, length-take}
 use Rattle.std.proofs.lemmas.Option.{same_Some}
 use Rattle.craft_base.specs.declared.command.Entry.{Entry}
+use Rattle.craft_base.specs.declared.command.Form.{Form}
+use Rattle.craft_base.specs.declared.command.Form.TheVariants as forms
 use Rattle.craft_base.specs.declared.command.Head.{Head}
+use Rattle.craft_base.specs.declared.command.Reply.{Reply}
 use Rattle.craft_base.specs.declared.command.Reply.TheVariants as replies
 use Rattle.kv_apply.specs.Commands.{heads_of, told}
 use Rattle.kv_apply.specs.Laws.{TellsIndexes}
 use Rattle.kv_apply.specs.declared.outcome.Outcome.{Outcome}
 use Rattle.kv_apply.specs.declared.outcome.Outcome.TheVariants as outcomes
 use Rattle.world_model.specs.Rules.Applying.{reply_of, value_of, value_reply, whole_bytes}
-use Rattle.world_model.specs.Safety.{IsFront, StandsFor, heads_in, value_in, value_of_command}
+use Rattle.world_model.specs.Safety.{Holds, IsFront, StandsFor, heads_in, value_in, value_of_command}
 use Rattle.world_model.specs.Traces.{Command}
 use Rattle.bridge.proofs.Furthest.{at_position}
 use Rattle.bridge.proofs.Replies.Lists.{taken_there}
 
--- these entries stand for these commands, in order
+-- an entry is of the command's term and asks for the same, and where it is held whole, with the command's value
+abbrev pub AnswersFor : Entry → Command → Type 0
+AnswersFor entry command =
+    (entry.term ≡ command.term) × (entry.head ≡ command.head) × ((bytes : List ℕ) → entry.form ≡ forms.Whole bytes → bytes ≡ command.value)
+
+pub stands_answers : (need member : ℕ) (entry : Entry) (command : Command) → StandsFor need member entry command → AnswersFor entry command
+stands_answers need member entry command stands = (stands.0, stands.1, λ bytes is. whole entry.form bytes is stands.2) where
+  whole : (form : Form) (bytes : List ℕ) → form ≡ forms.Whole bytes → Holds need member form command.value → bytes ≡ command.value
+  whole (forms.Whole own) bytes is holds = same own bytes is ∙ holds where
+    same : (own bytes : List ℕ) → forms.Whole own ≡ forms.Whole bytes → bytes ≡ own
+    same own bytes is = cc
+  whole (forms.Part part) bytes is holds = cc
+
+-- these entries do so for these commands, in order
 abbrev pub StandForEach : List Entry → List Command → Type 0
 StandForEach [] [] = Unit {0}
-StandForEach (entry ∷ log) (command ∷ commands) = StandsFor entry command × StandForEach log commands
+StandForEach (entry ∷ log) (command ∷ commands) = AnswersFor entry command × StandForEach log commands
 StandForEach _ _ = ⊥
 
 pub same_long : (log : List Entry) (commands : List Command) → StandForEach log commands → length log ≡ length commands
@@ -36,13 +52,13 @@ each_head (entry ∷ log) (command ∷ commands) stand =
 pub same_heads : (log : List Entry) (commands : List Command) → StandForEach log commands → heads_of log ≡ heads_in commands
 same_heads log commands stand = ap (λ (heads : List Head). reverse heads) (each_head log commands stand)
 
--- an entry that is the same stands for the same
-same_stands : {one other : Entry} {command : Command} → one ≡ other → StandsFor one command → StandsFor other command
-same_stands {command = command} same stands = subst (λ entry. StandsFor entry command) same stands
+-- an entry that is the same does so for the same
+same_stands : {one other : Entry} {command : Command} → one ≡ other → AnswersFor one command → AnswersFor other command
+same_stands {command = command} same stands = subst (λ entry. AnswersFor entry command) same stands
 
 command_there :
     (log : List Entry) (commands : List Command) → StandForEach log commands → (place : ℕ) (entry : Entry) → slice_get log place ≡ Some entry →
-    (command : Command) × (slice_get commands place ≡ Some command) × StandsFor entry command
+    (command : Command) × (slice_get commands place ≡ Some command) × AnswersFor entry command
 command_there [] commands stand place entry e = cc
 command_there (first ∷ log) [] stand place entry e = absurd stand
 command_there (first ∷ log) (command ∷ commands) stand zero entry e =
@@ -51,31 +67,40 @@ command_there (first ∷ log) (command ∷ commands) stand (suc place) entry e =
 
 -- ---- an outcome as it is told
 
--- the value at a place is held whole, and is the command's
+whole_form : (form : Form) (bytes : List ℕ) → whole_bytes form ≡ Some bytes → form ≡ forms.Whole bytes
+whole_form (forms.Whole own) bytes is = ap (λ it. forms.Whole it) (same_Some own bytes is)
+whole_form (forms.Part part) bytes is = cc
+
+-- where the value at a place is held whole, it is the command's
 value_there :
     (log : List Entry) (n : ℕ) (commands : List Command) → StandForEach (take n log) commands → (place : ℕ) → place < length commands →
-    value_of (slice_get log place) ≡ Some (value_of_command (slice_get commands place))
-value_there log n commands stand place lt =
+    (bytes : List ℕ) → value_of (slice_get log place) ≡ Some bytes → bytes ≡ value_of_command (slice_get commands place)
+value_there log n commands stand place lt bytes is =
     let long : length (take n log) ≡ length commands = same_long (take n log) commands stand in
     let found = at_position (take n log) place (omega (arith, long, lt)) in
     let within : length (take n log) ≡ min n (length log) = length-take n log in
     let there : slice_get log place ≡ Some found.0 = sym (taken_there n log place (omega (arith, within, long, lt))) ∙ found.1 in
     let by = command_there (take n log) commands stand place found.0 found.1 in
-    ap value_of there ∙ ap whole_bytes by.2.2 ∙ ap (λ it. Some (value_of_command it)) (sym by.1)
+    by.2.2 bytes (whole_form found.0.form bytes (sym (ap value_of there) ∙ is)) ∙ ap value_of_command (sym by.1)
 
+-- what is told of an outcome by a log is what the commands tell
 pub told_by_commands :
     (log : List Entry) (n : ℕ) (commands : List Command) → StandForEach (take n log) commands → (o : Outcome) → TellsIndexes (length commands) o →
-    reply_of log o ≡ Some (told (value_in commands) o)
-told_by_commands log n commands stand (outcomes.Found zero) is = absurd (omega (arith, is.0))
-told_by_commands log n commands stand (outcomes.Found (suc place)) is =
-    let at : place ≡ suc place - 1 = omega arith in
-    ap (value_reply (suc place)) (value_there log n commands stand place (omega (arith, is.1)))
-    ∙ ap (λ i. Some (replies.Value (suc place) (value_of_command (slice_get commands i)))) at
-told_by_commands log n commands stand (outcomes.Done version) is = refl
-told_by_commands log n commands stand (outcomes.Differs version) is = refl
-told_by_commands log n commands stand (outcomes.Gone was_there) is = refl
-told_by_commands log n commands stand outcomes.Nothing is = refl
-told_by_commands log n commands stand outcomes.Old is = refl
+    (reply : Reply) → reply_of log o ≡ Some reply → reply ≡ told (value_in commands) o
+told_by_commands log n commands stand (outcomes.Found zero) is reply e = absurd (omega (arith, is.0))
+told_by_commands log n commands stand (outcomes.Found (suc place)) is reply e = by_value (value_of (slice_get log place)) refl e where
+  by_value : (found : Option (List ℕ)) → value_of (slice_get log place) ≡ found → value_reply (suc place) found ≡ Some reply → reply ≡ told (value_in commands) (outcomes.Found (suc place))
+  by_value None here e = cc
+  by_value (Some bytes) here e =
+      let at : place ≡ suc place - 1 = omega arith in
+      sym (same_Some (replies.Value (suc place) bytes) reply e)
+      ∙ ap (λ it. replies.Value (suc place) it) (value_there log n commands stand place (omega (arith, is.1)) bytes here)
+      ∙ ap (λ i. replies.Value (suc place) (value_of_command (slice_get commands i))) at
+told_by_commands log n commands stand (outcomes.Done version) is reply e = sym (same_Some _ reply e)
+told_by_commands log n commands stand (outcomes.Differs version) is reply e = sym (same_Some _ reply e)
+told_by_commands log n commands stand (outcomes.Gone was_there) is reply e = sym (same_Some _ reply e)
+told_by_commands log n commands stand outcomes.Nothing is reply e = sym (same_Some _ reply e)
+told_by_commands log n commands stand outcomes.Old is reply e = sym (same_Some _ reply e)
 
 -- ---- commands out of what each place tells
 
@@ -83,7 +108,7 @@ told_by_commands log n commands stand outcomes.Old is = refl
 abbrev pub StandsThere : List Entry → List (Option Command) → ℕ → Type 0
 StandsThere log listed place =
     (entry : Entry) × (command : Command) × (slice_get log place ≡ Some entry) × (slice_get listed place ≡ Some (Some command))
-    × StandsFor entry command
+    × AnswersFor entry command
 
 -- the commands that a list begins with, for which a front of the log stands
 pub record Gathered (log : List Entry) (listed : List (Option Command)) (n : ℕ) : Type 0 where

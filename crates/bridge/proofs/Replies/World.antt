@@ -24,7 +24,7 @@ use Rattle.bridge.proofs.Replies.Calls.{CallsStand, IsToldBy}
 use Rattle.bridge.proofs.Replies.Lists.{front_trans}
 use Rattle.bridge.proofs.Replies.Outcomes.{IsTold}
 use Rattle.bridge.proofs.Replies.Rules.{ActAnswers, IsAnswering, message_answers, tick_answers}
-use Rattle.bridge.proofs.Replies.Standing.{Gathered, gather}
+use Rattle.bridge.proofs.Replies.Standing.{Gathered, gather, stands_answers}
 use Rattle.bridge.proofs.Replies.Told.{replied, replies_kept}
 
 -- each request that waits at the member stands in its log
@@ -66,7 +66,9 @@ module _ (w : World) (me : ℕ) (m : Member) (event : turns.Event) (volatile : V
         let there : slice_get now.members me ≡ Some (running_as act.node) = set_here w.members me m (running_as act.node) here in
         let up_to : Gathered act.node.durable.log (committed now) by.0 =
         gather act.node.durable.log (committed now) by.0
-        (λ place lt. holds me (running_as act.node) place there (omega (arith, lt, by.1))) in
+        (λ place lt.
+        let h = holds me (running_as act.node) place there (omega (arith, lt, by.1)) in
+        (h.0, h.1, h.2, h.3, stands_answers now.shape.need me h.0 h.1 h.4)) in
         (up_to.commands, up_to.front, by.2 up_to.commands up_to.stand)
 
     turn_told : All (IsToldOf (committed now)) (replies_told w.count me act.outputs)

@@ -16,6 +16,7 @@ returns-in-Node-clause-serves g c = λ node disk is items.
     let files : Files = record {
       before = g.D.Disk.seen disk;
       after = g.D.Disk.seen left;
+      might_leave = CanLeave (g.D.Disk.tells_crash disk) (g.D.Disk.seen disk) (g.D.Disk.may_leave disk);
       leaves = CanLeave (g.D.Disk.tells_crash left) (g.D.Disk.seen left) (g.D.Disk.may_leave left);
     } in
     let before : Edges = record {
@@ -32,7 +33,7 @@ returns-in-Node-clause-serves g c = λ node disk is items.
     } in
     let old : FaultCounts = record { sink = g.O.Sink.faults c.args.out.now; disk = g.D.Disk.faults disk; link = g.L.Link.faults c.args.link.now } in
     let new : FaultCounts = record { sink = g.O.Sink.faults c.run_on_disk.new.out; disk = g.D.Disk.faults left; link = g.L.Link.faults c.run_on_disk.new.link } in
-    (left, s.1, serves_for c.in-Node.node node files before after old new c.run_on_disk.result.0 (same_node c.in-Node.is is) s.2)
+    (left, s.1, s.2, serves_for c.in-Node.node node files before after old new c.run_on_disk.result.0 (same_node c.in-Node.is is) s.3)
 
 pub returns-in-Ask-clause-answers : goal.returns-in-Ask-clause-answers
 returns-in-Ask-clause-answers g c =

@@ -14,9 +14,9 @@ use Rattle.net_node.proofs.packets.receive.Goals as goal
 
 pub returns-in-Ok-Packet-clause-made : goal.returns-in-Ok-Packet-clause-made
 returns-in-Ok-Packet-clause-made g c =
-    let places = c.args.group.now.places.now in
-    let shape = c.args.group.now.shape.now in
-    let me = c.args.group.now.me in
+    let places = c.args.cluster.now.places.now in
+    let shape = c.args.cluster.now.shape.now in
+    let me = c.args.cluster.now.me in
     let e = c.in-Ok-Packet.ensures in
     let coming = g.L.Link.coming c.next.new.self in
     let sent = g.L.Link.sent c.next.new.self in
@@ -36,9 +36,9 @@ returns-in-Ok-Packet-clause-made g c =
 
 pub returns-in-Ok-Packet-clause-halted : goal.returns-in-Ok-Packet-clause-halted
 returns-in-Ok-Packet-clause-halted g c =
-    let places = c.args.group.now.places.now in
-    let shape = c.args.group.now.shape.now in
-    let me = c.args.group.now.me in
+    let places = c.args.cluster.now.places.now in
+    let shape = c.args.cluster.now.shape.now in
+    let me = c.args.cluster.now.me in
     let e = c.in-Ok-Packet.ensures in
     let coming = g.L.Link.coming c.next.new.self in
     let sent = g.L.Link.sent c.next.new.self in
@@ -58,9 +58,9 @@ returns-in-Ok-Packet-clause-halted g c =
 
 pub returns-in-Err-clause-halted : goal.returns-in-Err-clause-halted
 returns-in-Err-clause-halted g c = λ readings.
-    let places = c.args.group.now.places.now in
-    let shape = c.args.group.now.shape.now in
-    let me = c.args.group.now.me in
+    let places = c.args.cluster.now.places.now in
+    let shape = c.args.cluster.now.shape.now in
+    let me = c.args.cluster.now.me in
     let e = c.in-Err.ensures in
     let disk = g.D.Disk in
     let back = c.give_back.result in

@@ -14,9 +14,9 @@ use Rattle.net_node.proofs.packets.take.Goals as goal
 
 pub returns-in_default-clause-halted : goal.returns-in_default-clause-halted
 returns-in_default-clause-halted g c = λ readings.
-    let places = c.args.group.now.places.now in
-    let shape = c.args.group.now.shape.now in
-    let me = c.args.group.now.me in
+    let places = c.args.cluster.now.places.now in
+    let shape = c.args.cluster.now.shape.now in
+    let me = c.args.cluster.now.me in
     let packet : Packet = record { place = c.args.place; bytes = c.args.bytes.now } in
     let disk = g.D.Disk in
     let back = c.give_back.result in
@@ -36,54 +36,54 @@ returns-in_default-clause-halted g c = λ readings.
 
 pub returns-in-Peer-clause-made : goal.returns-in-Peer-clause-made
 returns-in-Peer-clause-made g c =
-    let shape = c.args.group.now.shape.now in
-    let me = c.args.group.now.me in
+    let shape = c.args.cluster.now.shape.now in
+    let me = c.args.cluster.now.me in
     let event = event_of_packet shape me (record { place = c.args.place; bytes = c.args.bytes.now }) in
     let heard : Option turns.Event = Some (turns.Frame c.in-Peer.view.frame) in
     let same : heard ≡ event = sym (ap (event_of_heard c.args.place) c.in-Peer.is) ∙ c.in-Ok.ensures.heard c.args.place in
-    IfOk-weaker c.step.result _ _ (λ x is readings. taking_makes c.args.group.now.places.now shape me event heard _ _ same (is readings)) c.step.ensures.made
+    IfOk-weaker c.step.result _ _ (λ x is readings. taking_makes c.args.cluster.now.places.now shape me event heard _ _ same (is readings)) c.step.ensures.made
 
 pub returns-in-Peer-clause-halted : goal.returns-in-Peer-clause-halted
 returns-in-Peer-clause-halted g c =
-    let shape = c.args.group.now.shape.now in
-    let me = c.args.group.now.me in
+    let shape = c.args.cluster.now.shape.now in
+    let me = c.args.cluster.now.me in
     let event = event_of_packet shape me (record { place = c.args.place; bytes = c.args.bytes.now }) in
     let heard : Option turns.Event = Some (turns.Frame c.in-Peer.view.frame) in
     let same : heard ≡ event = sym (ap (event_of_heard c.args.place) c.in-Peer.is) ∙ c.in-Ok.ensures.heard c.args.place in
-    IfErr-weaker c.step.result _ _ (λ x is readings. taking_halts c.args.group.now.places.now shape me event heard _ _ _ _ _ same (is readings)) c.step.ensures.halted
+    IfErr-weaker c.step.result _ _ (λ x is readings. taking_halts c.args.cluster.now.places.now shape me event heard _ _ _ _ _ same (is readings)) c.step.ensures.halted
 
 pub returns-in-Asked-clause-made : goal.returns-in-Asked-clause-made
 returns-in-Asked-clause-made g c =
-    let shape = c.args.group.now.shape.now in
-    let me = c.args.group.now.me in
+    let shape = c.args.cluster.now.shape.now in
+    let me = c.args.cluster.now.me in
     let event = event_of_packet shape me (record { place = c.args.place; bytes = c.args.bytes.now }) in
     let heard : Option turns.Event = Some (turns.Call c.args.place c.in-Asked.request) in
     let same : heard ≡ event = sym (ap (event_of_heard c.args.place) c.in-Asked.is) ∙ c.in-Ok.ensures.heard c.args.place in
-    IfOk-weaker c.step-in-Asked.result _ _ (λ x is readings. taking_makes c.args.group.now.places.now shape me event heard _ _ same (is readings)) c.step-in-Asked.ensures.made
+    IfOk-weaker c.step-in-Asked.result _ _ (λ x is readings. taking_makes c.args.cluster.now.places.now shape me event heard _ _ same (is readings)) c.step-in-Asked.ensures.made
 
 pub returns-in-Asked-clause-halted : goal.returns-in-Asked-clause-halted
 returns-in-Asked-clause-halted g c =
-    let shape = c.args.group.now.shape.now in
-    let me = c.args.group.now.me in
+    let shape = c.args.cluster.now.shape.now in
+    let me = c.args.cluster.now.me in
     let event = event_of_packet shape me (record { place = c.args.place; bytes = c.args.bytes.now }) in
     let heard : Option turns.Event = Some (turns.Call c.args.place c.in-Asked.request) in
     let same : heard ≡ event = sym (ap (event_of_heard c.args.place) c.in-Asked.is) ∙ c.in-Ok.ensures.heard c.args.place in
-    IfErr-weaker c.step-in-Asked.result _ _ (λ x is readings. taking_halts c.args.group.now.places.now shape me event heard _ _ _ _ _ same (is readings)) c.step-in-Asked.ensures.halted
+    IfErr-weaker c.step-in-Asked.result _ _ (λ x is readings. taking_halts c.args.cluster.now.places.now shape me event heard _ _ _ _ _ same (is readings)) c.step-in-Asked.ensures.halted
 
 pub returns-in-Nothing-clause-made : goal.returns-in-Nothing-clause-made
 returns-in-Nothing-clause-made g c =
-    let shape = c.args.group.now.shape.now in
-    let me = c.args.group.now.me in
+    let shape = c.args.cluster.now.shape.now in
+    let me = c.args.cluster.now.me in
     let event = event_of_packet shape me (record { place = c.args.place; bytes = c.args.bytes.now }) in
     let heard : Option turns.Event = None in
     let same : heard ≡ event = sym (ap (event_of_heard c.args.place) c.in-Nothing.is) ∙ c.in-Ok.ensures.heard c.args.place in
-    IfOk-weaker c.drop_packet.result _ _ (λ x is readings. taking_makes c.args.group.now.places.now shape me event heard _ _ same (is readings _ _ _)) c.drop_packet.ensures.made
+    IfOk-weaker c.drop_packet.result _ _ (λ x is readings. taking_makes c.args.cluster.now.places.now shape me event heard _ _ same (is readings _ _ _)) c.drop_packet.ensures.made
 
 pub returns-in-Nothing-clause-halted : goal.returns-in-Nothing-clause-halted
 returns-in-Nothing-clause-halted g c =
-    let shape = c.args.group.now.shape.now in
-    let me = c.args.group.now.me in
+    let shape = c.args.cluster.now.shape.now in
+    let me = c.args.cluster.now.me in
     let event = event_of_packet shape me (record { place = c.args.place; bytes = c.args.bytes.now }) in
     let heard : Option turns.Event = None in
     let same : heard ≡ event = sym (ap (event_of_heard c.args.place) c.in-Nothing.is) ∙ c.in-Ok.ensures.heard c.args.place in
-    IfErr-weaker c.drop_packet.result _ _ (λ x is readings. taking_halts c.args.group.now.places.now shape me event heard _ _ _ _ _ same (is readings _ _ _)) c.drop_packet.ensures.halted
+    IfErr-weaker c.drop_packet.result _ _ (λ x is readings. taking_halts c.args.cluster.now.places.now shape me event heard _ _ _ _ _ same (is readings _ _ _)) c.drop_packet.ensures.halted

@@ -7,9 +7,9 @@ use Rattle.net_node.proofs.sending.send_all.Goals as goal
 
 pub loop-output-preserved : goal.loop-output-preserved
 loop-output-preserved g c =
-    let shape = c.args.group.now.shape.now in
-    let places = c.args.group.now.places.now in
-    let me = c.args.group.now.me in
+    let shape = c.args.cluster.now.shape.now in
+    let places = c.args.cluster.now.places.now in
+    let me = c.args.cluster.now.me in
     let l = c.loop-output in
     let o = c.in-Some.output in
     let e = c.in_ok-send_output.ensures in
@@ -25,5 +25,5 @@ pub returns-in_err-send_output-clause-front : goal.returns-in_err-send_output-cl
 returns-in_err-send_output-clause-front g c =
     let p = err_from_is_err_and c.from_residual.result c.from_residual.ensures.1 in
     let l = c.loop-output in
-    rw p.1 (sends_front c.args.group.now.shape.now c.args.group.now.places.now c.args.group.now.me c.args.outputs.items l.yielded l.output-iterator.rest.items
+    rw p.1 (sends_front c.args.cluster.now.shape.now c.args.cluster.now.places.now c.args.cluster.now.me c.args.outputs.items l.yielded l.output-iterator.rest.items
     (g.L.Link.sent c.args.link.now) (g.L.Link.sent l.link) (g.L.Link.sent c.send_output.new.link) l.invariant.left l.invariant.sent c.in_err-send_output.ensures.none)

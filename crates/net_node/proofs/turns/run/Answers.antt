@@ -12,7 +12,7 @@ loop-preserved g c =
     let d = g.D.Disk in
     let e = c.in_ok-serving.ensures in
     record {
-      made = makes_on c.args.group.now.places.now l.counter c.args.group.now.shape.now c.args.group.now.me _ _ _ l.invariant.made e.made;
+      made = makes_on c.args.cluster.now.places.now l.counter c.args.cluster.now.shape.now c.args.cluster.now.me _ _ _ l.invariant.made e.made;
       told = tells_both d.seen d.tells_crash d.tells_past d.moment d.may_leave d.left_since d.history _ _ _ l.invariant.told e.told;
     }
 
@@ -21,14 +21,14 @@ returns-in_err-serving-clause-halted g c =
     let l = c.loop in
     let e = c.in_err-serving.ensures in
     let p = err_from_is_err_and c.from_residual.result c.from_residual.ensures.1 in
-    rw (p.1, p.2) (halts_on c.args.group.now.places.now l.counter c.args.turns c.args.group.now.shape.now c.args.group.now.me _ _ _ _ _ _
+    rw (p.1, p.2) (halts_on c.args.cluster.now.places.now l.counter c.args.turns c.args.cluster.now.shape.now c.args.cluster.now.me _ _ _ _ _ _
     c.loop-test.true l.invariant.made e.halted)
 
 pub returns-clause-made : goal.returns-clause-made
 returns-clause-made g c =
     let l = c.loop in
     let all : l.counter ≡ c.args.turns = omega arith in
-    subst (λ (n : ℕ). Makes (node_run c.args.group.now.places.now n) c.args.group.now.shape.now c.args.group.now.me n
+    subst (λ (n : ℕ). Makes (node_run c.args.cluster.now.places.now n) c.args.cluster.now.shape.now c.args.cluster.now.me n
     (record {
       core = c.args.serving.shell.core;
       counts = c.args.serving.counts;

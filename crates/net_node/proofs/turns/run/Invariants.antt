@@ -6,7 +6,7 @@ use Rattle.net_node.proofs.turns.run.Given as goal
 -- so many turns were made
 abbrev pub invariant-loop : goal.invariant-loop
 invariant-loop g l = record {
-  made : Makes (node_run l.group.places.now l.counter) l.group.shape.now l.group.me l.counter
+  made : Makes (node_run l.cluster.places.now l.counter) l.cluster.shape.now l.cluster.me l.counter
       (record {
         core = l.fn.serving.shell.core;
         counts = l.fn.serving.counts;

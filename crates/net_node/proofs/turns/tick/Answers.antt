@@ -7,7 +7,7 @@ use Rattle.net_node.proofs.turns.tick.Goals as goal
 
 pub returns-clause-made : goal.returns-clause-made
 returns-clause-made g c =
-    let places = c.args.group.now.places.now in
+    let places = c.args.cluster.now.places.now in
     let word = c.next_word-word.result in
     let next = c.next_word-word.new.self in
     IfOk-weaker c.step.result _ _ (λ x is readings.
@@ -17,12 +17,12 @@ returns-clause-made g c =
       edges = record { readings = readings; coming = g.L.Link.coming c.args.link.now; sent = g.L.Link.sent c.args.link.now; taken = g.O.Sink.taken c.args.out.now };
       faults = record { sink = g.O.Sink.faults c.args.out.now; disk = g.D.Disk.faults c.args.serving.shell.disk; link = g.L.Link.faults c.args.link.now };
     } in
-    makes_by (ticking places) (serving places (turns.Tick word)) c.args.group.now.shape.now c.args.group.now.me 1 old (with_words next old) _
+    makes_by (ticking places) (serving places (turns.Tick word)) c.args.cluster.now.shape.now c.args.cluster.now.me 1 old (with_words next old) _
     (tick_prepares places word next old c.next_word-word.ensures) (is readings)) c.step.ensures.made
 
 pub returns-clause-halted : goal.returns-clause-halted
 returns-clause-halted g c =
-    let places = c.args.group.now.places.now in
+    let places = c.args.cluster.now.places.now in
     let word = c.next_word-word.result in
     let next = c.next_word-word.new.self in
     IfErr-weaker c.step.result _ _ (λ x is readings.
@@ -32,5 +32,5 @@ returns-clause-halted g c =
       edges = record { readings = readings; coming = g.L.Link.coming c.args.link.now; sent = g.L.Link.sent c.args.link.now; taken = g.O.Sink.taken c.args.out.now };
       faults = record { sink = g.O.Sink.faults c.args.out.now; disk = g.D.Disk.faults c.args.serving.shell.disk; link = g.L.Link.faults c.args.link.now };
     } in
-    halts_by (ticking places) (serving places (turns.Tick word)) c.args.group.now.shape.now c.args.group.now.me old (with_words next old) _ _ _ _
+    halts_by (ticking places) (serving places (turns.Tick word)) c.args.cluster.now.shape.now c.args.cluster.now.me old (with_words next old) _ _ _ _
     (tick_prepares places word next old c.next_word-word.ensures) (is readings)) c.step.ensures.halted

@@ -20,7 +20,7 @@ returns-in-Ok-clause-made g c = λ readings coming sent link.
       edges = record { readings = readings; coming = coming; sent = sent; taken = g.O.Sink.taken c.tell_drop.new.out };
       faults = record { sink = g.O.Sink.faults c.tell_drop.new.out; disk = g.D.Disk.faults self.shell.disk; link = link };
     } in
-    drop_makes c.args.group.now.shape.now c.args.group.now.me old new c.requires.member refl refl refl refl refl refl refl refl t.text t.taken
+    drop_makes c.args.cluster.now.shape.now c.args.cluster.now.me old new c.requires.member refl refl refl refl refl refl refl refl t.text t.taken
     (record { sink = t.later_sink; disk = omega arith; link = omega arith })
 
 pub returns-in-Err-clause-halted : goal.returns-in-Err-clause-halted
@@ -36,9 +36,9 @@ returns-in-Err-clause-halted g c = λ readings coming sent link.
     let back = ap g.D.Disk.faults c.give_back.ensures.disk in
     let disk = g.D.Disk in
     let leaves : List ℕ → Type 0 = CanLeave (disk.tells_crash c.give_back.result) (disk.seen c.give_back.result) (disk.may_leave c.give_back.result) in
-    drop_halts c.args.group.now.shape.now c.args.group.now.me old (record { readings = readings; coming = coming; sent = sent; taken = g.O.Sink.taken c.tell_drop.new.out })
+    drop_halts c.args.cluster.now.shape.now c.args.cluster.now.me old (record { readings = readings; coming = coming; sent = sent; taken = g.O.Sink.taken c.tell_drop.new.out })
     (record { sink = g.O.Sink.faults c.tell_drop.new.out; disk = g.D.Disk.faults c.give_back.result; link = link })
     leaves c.in-Err.end refl refl refl t.part
-    (given_back disk.seen disk.tells_crash disk.may_leave self.shell.disk c.give_back.result c.args.group.now.shape.now c.args.group.now.me self.shell.core
+    (given_back disk.seen disk.tells_crash disk.may_leave self.shell.disk c.give_back.result c.args.cluster.now.shape.now c.args.cluster.now.me self.shell.core
     c.give_back.ensures.disk c.requires.member c.give_back.ensures.durable) t.taken
     (record { sink = t.later_sink; disk = omega (arith, back); link = omega arith }) (t.cause (g.D.Disk.faults self.shell.disk) link)

@@ -1,10 +1,10 @@
-//! The group of a node, and its own place in it.
+//! The cluster of a node, and its own place in it.
 use craft_base::{MemberId, Shape};
 use std::alloc::Global;
 
-/// The group that a node is a member of.
+/// The cluster that a node is a member of.
 #[derive(Clone, Copy)]
-pub struct Group<'a> {
+pub struct Cluster<'a> {
     pub alloc: Global,
     pub shape: &'a Shape,
     /// The node itself.

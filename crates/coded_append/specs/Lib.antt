@@ -1,0 +1,5 @@
+pub mod Modes
+pub mod Starts
+pub mod Batches
+pub mod Ways
+pub mod Laws

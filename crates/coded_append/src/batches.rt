@@ -1,0 +1,82 @@
+//! The entries that a leader sends to a member.
+ghost use Rattle.std.specs.Prelude.{◌≡◌, ◌≤◌, ◌+◌, ◌-◌, ℕ, drop, length, map, Some, IfOk};
+ghost use Rattle.coded_append.specs.Batches.{batch_of, before_part, coded_batch, whole_batch};
+ghost use Rattle.coded_append.specs.Ways.{IsWay, sendable, sent_by};
+ghost use Rattle.entry_frames.specs.Logs.{entry_at, viewed_with};
+
+use crate::forms::{Way, sent_entry, sent_size};
+use craft_base::{MemberId, OutOfMemory, Shape};
+use entry_frames::{Batch, EntryView, LogView, MOST_ENTRIES, MOST_ENTRY_BYTES};
+use std::alloc::Global;
+
+/// The entries of the log from the index `start` on as they go to a member in Coded mode: a value that has bytes as the
+/// member's fragment, encoded once. They are at most 8, have at most 56,000 bytes as they go, and end before the first that
+/// the log itself holds as a part. The only error is want of memory.
+pub fn coded_batch<L: LogView>(
+    alloc: Global,
+    log: &L,
+    shape: &Shape,
+    member: MemberId,
+    start: u64,
+) -> Result<Batch, OutOfMemory>
+    requires least { 1 ≤ start }
+    requires most { start ≤ length (L.log log.now).entries + 1 }
+    ensures { IfOk result (λ batch. batch ≡ coded_batch shape.now.need member (L.log log.now).entries start) }
+{
+    let need = shape.need();
+    batch_of(alloc, log, &Way::Part { need, member }, start)
+}
+
+/// The entries of the log from the index `start` on as they go in Complete mode, which is as they are: at most 8, of at most
+/// 56,000 bytes, and none from the first on that the log itself holds as a part. The only error is want of memory.
+pub fn whole_batch<L: LogView>(alloc: Global, log: &L, start: u64) -> Result<Batch, OutOfMemory>
+    requires least { 1 ≤ start }
+    requires most { start ≤ length (L.log log.now).entries + 1 }
+    ensures { IfOk result (λ batch. batch ≡ whole_batch (L.log log.now).k (L.log log.now).entries start) }
+{
+    batch_of(alloc, log, &Way::Whole, start)
+}
+
+/// The entries of the log from an index on, each in the form in which it goes, as many as one message has room for.
+fn batch_of<L: LogView>(alloc: Global, log: &L, way: &Way, start: u64) -> Result<Batch, OutOfMemory>
+    requires way { IsWay way.now }
+    requires least { 1 ≤ start }
+    requires most { start ≤ length (L.log log.now).entries + 1 }
+    ensures { IfOk result (λ batch. (k : ℕ) → batch ≡ batch_of k (map (sent_by way.now) (before_part (drop (start - 1) (L.log log.now).entries)))) }
+{
+    let mut batch = Batch::new();
+    let mut room = MOST_ENTRY_BYTES;
+    for place in 0..MOST_ENTRIES as u64 {
+        match sendable(log, start + place, way, room) {
+            Some(view) => {
+                room -= sent_size(&view, way);
+                batch.push(sent_entry(alloc, &view, way)?);
+            }
+            None => return Ok(batch),
+        }
+    }
+    Ok(batch)
+}
+
+/// The entry at that index, where the log holds it whole and there is room for the bytes in which it goes.
+fn sendable<'a, L: LogView>(log: &'a L, index: u64, way: &Way, room: usize) -> Option<EntryView<'a>>
+    requires { IsWay way.now }
+    ensures { result ≡ viewed_with (L.log log.now).k (sendable way.now room (entry_at (L.log log.now).entries index)) }
+{
+    match log.at(index) {
+        Some(view) => if_it_fits(view, way, room),
+        None => None,
+    }
+}
+
+/// The entry, where it is whole and there is room for the bytes in which it goes.
+fn if_it_fits<'a>(view: EntryView<'a>, way: &Way, room: usize) -> Option<EntryView<'a>>
+    requires { IsWay way.now }
+    ensures { result ≡ viewed_with view.entry.k (sendable way.now room (Some view.entry.entry)) }
+{
+    if view.is_whole() && sent_size(&view, way) <= room {
+        Some(view)
+    } else {
+        None
+    }
+}

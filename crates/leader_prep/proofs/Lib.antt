@@ -1,0 +1,13 @@
+pub mod Judging
+pub mod Gathering
+pub mod Joining
+pub mod Lists
+pub mod Opening
+pub mod Passing
+pub mod Placing
+pub mod Ranges
+pub mod Returning
+pub mod Rows
+pub mod Solving
+pub mod Standing
+pub mod Taking

@@ -1,0 +1,20 @@
+//! Preparation of a new leader: what it holds of a value in part alone it rebuilds from what the others show, or cuts.
+#![tactic(auto)]
+
+mod deciding;
+mod ends;
+mod heads;
+mod parts;
+mod prep;
+mod slots;
+mod verdicts;
+
+pub use prep::Prep;
+pub use verdicts::Verdicts;
+
+#[cfg(test)]
+mod kept_log;
+#[cfg(test)]
+mod test_answers;
+#[cfg(test)]
+mod tests;
