@@ -3,3 +3,4 @@ pub mod Additive
 pub mod Products
 pub mod Laws
 pub mod Inverses
+pub mod Blocks

@@ -3,7 +3,7 @@ ghost use Rattle.gf_lanes.specs.Field.{double, product};
 ghost use Rattle.gf_lanes.specs.Laws.{IsField};
 
 /// The low byte of the field's polynomial, which takes the place of a carry.
-const REDUCTION: u8 = 0x1d;
+pub const REDUCTION: u8 = 0x1d;
 
 /// Twice a number: shifted left by one, and reduced where bit 7 was set.
 fn double(a: u8) -> u8

@@ -1,9 +1,15 @@
-use Rattle.std.proofs.Common.{◌≡◌, ℕ, ◌<◌, ◌≤◌, slice_index}
+use Rattle.std.proofs.Common.{◌≡◌, ℕ, ◌*◌, ◌<◌, ◌≤◌, slice_index}
 use Rattle.gf_lanes.specs.Field.{product}
 use Rattle.gf_lanes.proofs.slices.scale.Given as goal
 
+-- the blocks that were reached, and the places past them
+abbrev pub invariant-loop-block : goal.invariant-loop-block
+invariant-loop-block l =
+    ((k : ℕ) → k < l.block * 32 → slice_index l.dst k ≡ product l.c (slice_index l.fn.dst k))
+    × ((k : ℕ) → l.block * 32 ≤ k → slice_index l.dst k ≡ slice_index l.fn.dst k)
+
 -- the places that were reached, and those that were not
-abbrev pub invariant-loop-number : goal.invariant-loop-number
-invariant-loop-number l =
-    ((k : ℕ) → k < l.number-index → slice_index l.dst k ≡ product l.c (slice_index l.fn.dst k))
-    × ((k : ℕ) → l.number-index ≤ k → slice_index l.dst k ≡ slice_index l.fn.dst k)
+abbrev pub invariant-loop-p : goal.invariant-loop-p
+invariant-loop-p l =
+    ((k : ℕ) → k < l.p → slice_index l.dst k ≡ product l.c (slice_index l.fn.dst k))
+    × ((k : ℕ) → l.p ≤ k → slice_index l.dst k ≡ slice_index l.fn.dst k)

@@ -1,0 +1,15 @@
+use Rattle.std.proofs.Common.{◌≡◌, ℕ, ◌+◌, ◌*◌, get_or, ap, ◌∙◌, arith}
+use Rattle.gf_lanes.specs.Field.{product}
+use Rattle.gf_lanes.proofs.Blocks.{HasLanes-same, stored_step}
+use Rattle.gf_lanes.proofs.slices.scale.Goals as goal
+
+pub loop-block-preserved : goal.loop-block-preserved
+loop-block-preserved c =
+    let at : ℕ = c.loop-block.block * 32 in
+    let old : ℕ → ℕ = λ p. get_or c.args.dst.now p 0 in
+    let now : (k : ℕ) → get_or c.loop-block.dst (at + k) 0 ≡ old (at + k) = λ k. c.loop-block.invariant.1 (at + k) (omega arith) in
+    stored_step (λ p. product c.args.c (old p)) old c.loop-block.dst c.store.new.numbers c.looked_up.result at ((c.loop-block.block + 1) * 32) (omega arith)
+    c.loop-block.invariant.0 c.loop-block.invariant.1
+    (HasLanes-same _ _ _ c.looked_up.ensures (λ k l.
+    ap (product c.args.c) (c.load-numbers.ensures.each k l ∙ now k)))
+    c.store.ensures
