@@ -3,7 +3,8 @@ use Rattle.std.proofs.Common.{◌≡◌, ℕ, suc, ◌+◌, ◌^◌, ◌<◌, re
 use Rattle.std.specs.Int.Bits.{xor_assoc}
 use Rattle.std.proofs.lemmas.Nat.{xor_comm}
 use Rattle.gf_lanes.specs.Field.{product}
-use Rattle.gf_lanes.proofs.Laws.{product_comm}
+use Rattle.gf_lanes.proofs.Laws.{product_comm, product_assoc, product_left}
+use Rattle.gf_lanes.proofs.Products.{product-xor_r}
 use Rattle.rs_code.specs.Polynomials.{power, polynomial}
 use Rattle.rs_code.proofs.Polynomials.{polynomial-same, polynomial-horner}
 
@@ -29,13 +30,22 @@ value_step c x r v p t h k e =
     let next : suc r ≡ r + 1 = omega arith in
     ap (λ n. bit_xor n t) h ∙ ap (λ n. bit_xor (polynomial c r x) n) (e ∙ ap (λ n. product (c r) n) k) ∙ ap (λ n. polynomial c n x) next
 
--- the next summand of a value that is added to s
-pub added_step : (c : ℕ → ℕ) (x r s v p t w : ℕ) → v ≡ bit_xor s (polynomial c r x) → p ≡ power x r → t ≡ c r → w ≡ bit_xor v (product p t) → w ≡ bit_xor s (polynomial c (r + 1) x)
-added_step c x r s v p t w h k e made =
+-- the next power, times a factor
+pub multiple_step : (f x r p q : ℕ) → p ≡ product f (power x r) → q ≡ product x p → q ≡ product f (power x (r + 1))
+multiple_step f x r p q h k = k ∙ ap (product x) h ∙ product_left x f (power x r) ∙ ap (product f) (power_step x r (power x r) (product x (power x r)) refl refl)
+
+-- the next summand of f times a value, which is added to s
+pub added_step : (c : ℕ → ℕ) (x f r s v p t w : ℕ) → v ≡ bit_xor s (product f (polynomial c r x)) → p ≡ product f (power x r) → t ≡ c r → w ≡ bit_xor v (product p t) → w ≡ bit_xor s (product f (polynomial c (r + 1) x))
+added_step c x f r s v p t w h k e made =
+    let value : ℕ = polynomial c r x in
+    let more : ℕ = product (c r) (power x r) in
+    let summand : product p t ≡ product f more =
+    ap (λ n. product n t) k ∙ product_assoc f (power x r) t
+    ∙ ap (product f) (product_comm (power x r) t ∙ ap (λ n. product n (power x r)) e) in
     made
     ∙ ap (λ n. bit_xor n (product p t)) h
-    ∙ xor_assoc s (polynomial c r x) (product p t)
-    ∙ ap (λ n. bit_xor s n) (value_step c x r (polynomial c r x) p (product p t) refl k (product_comm p t ∙ ap (λ n. product n p) e))
+    ∙ xor_assoc s (product f value) (product p t)
+    ∙ ap (bit_xor s) (ap (bit_xor (product f value)) summand ∙ sym (product-xor_r f value more) ∙ ap (product f) (value_step c x r value (power x r) more refl refl refl))
 
 -- Horner's rule, from the coefficients above r to those from r on
 pub horner_step : (c : ℕ → ℕ) (x r n v s w : ℕ) → c r < 2 ^ 8 → v ≡ polynomial (λ i. c (r + 1 + i)) n x → s ≡ product x v → w ≡ bit_xor s (c r) → w ≡ polynomial (λ i. c (r + i)) (n + 1) x

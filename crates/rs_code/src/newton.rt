@@ -5,7 +5,7 @@ ghost use Rattle.rs_code.specs.Fragments.{coefficients};
 ghost use Rattle.rs_code.specs.Roots.{times_root};
 
 use crate::polynomial::{add_multiples, add_values, value_at};
-use gf_lanes::{gf_inv, mul_add, scale};
+use gf_lanes::{gf_inv, mul_add};
 
 /// The coefficients, lowest first, of a polynomial of degree at most 8: the product of x + point over the points that
 /// were taken.
@@ -29,9 +29,10 @@ pub fn interpolate(registers: &mut [u8], count: usize, roots: &Roots, point: u8,
 {
     let (earlier, rest) = registers.split_at_mut(count * part.len());
     let newest = &mut rest[..part.len()];
-    newest.copy_from_slice(part);
-    add_values(newest, earlier, count, point);
-    scale(newest, gf_inv(value_at(roots, point)));
+    let factor = gf_inv(value_at(roots, point));
+    newest.fill(0);
+    mul_add(newest, part, factor);
+    add_values(newest, earlier, count, point, factor);
     add_multiples(earlier, newest, &roots[..count]);
 }
 

@@ -18,19 +18,19 @@ pub fn value_at(coefficients: &[u8], point: u8) -> u8
     value
 }
 
-/// Adds to each byte the value at a point of the polynomial whose coefficients are the bytes at its place in the first
-/// `count` pieces, each as long as `sums`.
-pub fn add_values(sums: &mut [u8], pieces: &[u8], count: usize, point: u8)
+/// Adds to each byte `factor` times the value at a point of the polynomial whose coefficients are the bytes at its place
+/// in the first `count` pieces, each as long as `sums`.
+pub fn add_values(sums: &mut [u8], pieces: &[u8], count: usize, point: u8, factor: u8)
     requires { count * length sums.old ≤ length pieces.now }
     ensures { EachIndex sums.new (λ place. slice_index sums.new place
         ≡ bit_xor (slice_index sums.old place)
-        (polynomial (coefficients pieces.now (length sums.old) place) count point)) }
+        (product factor (polynomial (coefficients pieces.now (length sums.old) place) count point))) }
 {
     let size = sums.len();
-    let mut power = 1;
+    let mut multiplier = factor;
     for r in 0..count {
-        mul_add(sums, &pieces[r * size..(r + 1) * size], power);
-        power = gf_mul(point, power);
+        mul_add(sums, &pieces[r * size..(r + 1) * size], multiplier);
+        multiplier = gf_mul(point, multiplier);
     }
 }
 
