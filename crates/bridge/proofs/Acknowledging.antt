@@ -3,6 +3,7 @@ use Rattle.std.proofs.Common.{◌≡◌, ℕ, ◌≤◌, max, List, ◌∙◌, B
 use Rattle.std.proofs.lemmas.Bool.{and_parts, and_from, or_right, leb-true, le-leb}
 use Rattle.craft_base.specs.Shape.{Shape}
 use Rattle.world_model.specs.Nodes.{Node}
+use Rattle.world_model.specs.Rules.Prepare.{cursor_at}
 use Rattle.protocol.specs.History as protocol
 use Rattle.protocol.specs.Logs.{Slot, Agree, whole_at}
 use Rattle.protocol.specs.Moves.{Acknowledge, Reached, after}
@@ -10,7 +11,7 @@ use Rattle.protocol.proofs.Counting.{put_at_same}
 use Rattle.bridge.specs.Views.{log_seen}
 use Rattle.bridge.specs.Agreement.{NodeAgrees}
 use Rattle.bridge.specs.Bridges.{OwnMoves}
-use Rattle.bridge.proofs.Facts.{all_heard_stays}
+use Rattle.bridge.proofs.Facts.{all_heard_stays, pages_stay}
 use Rattle.bridge.proofs.Steps.{own_move, reached_grows}
 
 -- up to an index, what of a log is whole
@@ -53,6 +54,7 @@ module _
     role = a.role;
     heard = all_heard_stays (reached_grows reached acknowledges.run) n.durable.term member n.volatile.heard a.heard;
     knows = a.knows;
+    pages = pages_stay (reached_grows reached acknowledges.run) n.volatile.role n.durable.term (cursor_at n) n.volatile.pages a.pages;
     needs = a.needs;
   }
 

@@ -3,6 +3,8 @@ pub mod Standing
 pub mod Kept
 pub mod Cutting
 pub mod Completing
+pub mod Values
+pub mod Deciding
 pub mod Taken
 pub mod Plain
 pub mod Sent

@@ -9,7 +9,8 @@ use Rattle.craft_base.specs.Knowledge.{Heard}
 use Rattle.craft_base.specs.Shape.{Shape}
 use Rattle.craft_base.specs.declared.command.Entry.{Entry}
 use Rattle.entry_frames.specs.Logs as node
-use Rattle.world_model.specs.Quorums.{is_enough, may_commit, new_commit, open_indexes}
+use Rattle.coded_append.specs.Starts.{open_indexes}
+use Rattle.world_model.specs.Quorums.{is_enough, may_commit, new_commit}
 
 -- the greatest of some numbers and one more is one of them
 greatest_of : (P : ℕ → Type 0) (first : ℕ) (numbers : List ℕ) → P first → All P numbers → P (fold max first numbers)

@@ -6,7 +6,8 @@ use Rattle.craft_base.specs.declared.command.Form.{Form}
 use Rattle.craft_base.specs.declared.command.Form.TheVariants as forms
 use Rattle.entry_frames.specs.Durable.{Durable, after, applied, complete_at}
 use Rattle.entry_frames.specs.Records.{Whole}
-use Rattle.world_model.specs.Rules.Append.{completion, completion_of, completions, is_same_head}
+use Rattle.leader_prep.specs.Verdicts.{is_same_head}
+use Rattle.world_model.specs.Rules.Append.{completion, completion_of, completions}
 use Rattle.world_model.proofs.Recorded.{after-append}
 use Rattle.protocol.specs.Logs.{Same, term_at, term_of, is_whole, whole_at}
 use Rattle.protocol.proofs.Logs.{same_refl, same_trans}
@@ -61,10 +62,10 @@ pub record IsCompleted (d e : Durable) : Type 0 where
   pub same : Same (log_seen d.log) (log_seen e.log)
   pub whole : (i : ℕ) → whole_at (log_seen d.log) i ≡ true → whole_at (log_seen e.log) i ≡ true
 
-completed_refl : (d : Durable) → IsCompleted d d
+pub completed_refl : (d : Durable) → IsCompleted d d
 completed_refl d = record { term = refl; vote = refl; commit = refl; same = same_refl (log_seen d.log); whole = λ i w. w }
 
-completed_trans : {d e f : Durable} → IsCompleted d e → IsCompleted e f → IsCompleted d f
+pub completed_trans : {d e f : Durable} → IsCompleted d e → IsCompleted e f → IsCompleted d f
 completed_trans one other = record {
   term = other.term ∙ one.term;
   vote = other.vote ∙ one.vote;
@@ -73,7 +74,7 @@ completed_trans one other = record {
   whole = λ i w. other.whole i (one.whole i w);
 }
 
-value_completes : (d : Durable) (index : ℕ) (bytes : List ℕ) → IsCompleted d (applied d (Whole index bytes))
+pub value_completes : (d : Durable) (index : ℕ) (bytes : List ℕ) → IsCompleted d (applied d (Whole index bytes))
 value_completes d index bytes =
     let long : length (log_seen (complete_at d.log (index - 1) bytes)) ≡ length (log_seen d.log) = complete_length d.log (index - 1) bytes in
     record {

@@ -1,10 +1,17 @@
 pub mod Counting
 pub mod Views
 pub mod Stretches
+pub mod Batches
 pub mod Completed
 pub mod Taking
 pub mod TakenRecords
 pub mod Starts
+pub mod Pages
+pub mod OpenParts
+pub mod Forms
+pub mod Judging
+pub mod Losing
+pub mod Leaving
 pub mod Facts
 pub mod Needs
 pub mod Masks
@@ -12,6 +19,9 @@ pub mod Steps
 pub mod Acknowledging
 pub mod Proposing
 pub mod Restarting
+pub mod Remaining
+pub mod Deciding
+pub mod Beginning
 pub mod Knowing
 pub mod Committing
 pub mod Rules

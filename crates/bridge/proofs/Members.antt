@@ -9,7 +9,7 @@ use Rattle.craft_base.specs.Shape.{Shape}
 use Rattle.world_model.specs.Nodes.{node_with}
 use Rattle.world_model.specs.Traces.{Proposal, proposals_in}
 use Rattle.world_model.specs.Turn as turns
-use Rattle.world_model.specs.World.{Member, World, after_turn, node_of, running_as}
+use Rattle.world_model.specs.World.{Member, World, after_turn, node_of, running_as, volatile_of}
 use Rattle.world_model.proofs.Positions.{set_here, set_there}
 use Rattle.world_model.proofs.Turns.{sent_among-turned}
 use Rattle.protocol.specs.Growth.{Grows}
@@ -17,9 +17,9 @@ use Rattle.protocol.specs.History as protocol
 use Rattle.protocol.specs.Moves.{Reached}
 use Rattle.bridge.specs.Agreement.{MessageAgrees, NodeAgrees, WorldAgrees}
 use Rattle.bridge.specs.Bridges.{OwnMoves, TurnBridged, WorldBridged}
-use Rattle.bridge.specs.Traced.{AllStand, CommitAgrees, MessageStands, ProposalAgrees, RemovalAgrees, holder}
+use Rattle.bridge.specs.Traced.{AllStand, CommitAgrees, MessageStands, PageStands, ProposalAgrees, RemovalAgrees, holder}
 use Rattle.bridge.proofs.Book.Kept.{commits_stay, proposals_stay, removals_stay}
-use Rattle.bridge.proofs.Book.Standing.{message_more, stand_more}
+use Rattle.bridge.proofs.Book.Standing.{message_more, pages_more, stand_more}
 use Rattle.bridge.proofs.Facts.{messages_stay, node_stays}
 use Rattle.bridge.proofs.Steps.{reached_grows}
 
@@ -55,8 +55,9 @@ module _
     -- one member changes with no turn, and keeps its log
     pub changed_bridged :
         {h : protocol.History} {me : ℕ} {m : Member} (next : Member) → OwnMoves shape.faults me g h → NodeAgrees shape h me (node_of w.shape me next) →
-        slice_get w.members me ≡ Some m → m.durable.log ≡ next.durable.log → WorldBridged shape g (record w { members = slice_set w.members me next })
-    changed_bridged {h = h} {me = me} {m = m} next moves agrees here kept =
+        slice_get w.members me ≡ Some m → m.durable.log ≡ next.durable.log → All (PageStands shape w.book) (volatile_of next.running).pages →
+        WorldBridged shape g (record w { members = slice_set w.members me next })
+    changed_bridged {h = h} {me = me} {m = m} next moves agrees here kept seen =
         let grows : Grows g h = reached_grows reached moves.run in
         record {
           history = h;
@@ -71,6 +72,8 @@ module _
             commits = commits_stay grows w.commits a.commits;
             logs = each_after (λ k it. AllStand (holder shape k) w.book 1 it.durable.log) w.members me m next here
                 (subst (AllStand (holder shape me) w.book 1) kept (a.logs me m here)) (λ k it apart before. a.logs k it before);
+            pages = each_after (λ k it. All (PageStands shape w.book) (volatile_of it.running).pages) w.members me m next here seen
+                (λ k it apart before. a.pages k it before);
             stand = a.stand;
           };
         }
@@ -98,6 +101,7 @@ module _
           role = b.node.role;
           heard = b.node.heard;
           knows = b.node.knows;
+          pages = b.node.pages;
           needs = b.node.needs;
         } in
         record {
@@ -115,6 +119,8 @@ module _
             commits = All-append (CommitAgrees b.history) w.commits _ (commits_stay grows w.commits a.commits) t.commits;
             logs = each_after (λ k it. AllStand (holder shape k) book 1 it.durable.log) w.members me m (running_as act.node) here t.log
                 (λ k it apart before. stand_more (holder shape k) w.book _ 1 it.durable.log (a.logs k it before));
+            pages = each_after (λ k it. All (PageStands shape book) (volatile_of it.running).pages) w.members me m (running_as act.node) here t.pages
+                (λ k it apart before. pages_more shape w.book _ (volatile_of it.running).pages (a.pages k it before));
             stand = All-append (MessageStands shape book) w.sent _
                 (All-weaker (MessageStands shape w.book) (MessageStands shape book) (message_more shape w.book _) w.sent a.stand)
                 (All-same (MessageStands shape book) _ act.sends (sent_among-turned n act) t.sends);

@@ -1,8 +1,8 @@
 -- What an entry needs is what the shape says, also of an entry with which a leader begins, and of one that it adds.
-use Rattle.std.proofs.Common.{◌≡◌, ℕ, suc, ◌<◌, ◌≤◌, List, length, refl, ap, subst, ◌∙◌, inl, inr, arith, le_refl}
+use Rattle.std.proofs.Common.{◌≡◌, ℕ, suc, ◌<◌, ◌≤◌, List, length, refl, ap, subst, ◌∙◌, inl, inr, arith, le_refl, le_trans}
 use Rattle.std.proofs.lemmas.Bool.{cases_lt}
 use Rattle.protocol.specs.Counting.{put_at}
-use Rattle.protocol.specs.Logs.{Slot, term_at}
+use Rattle.protocol.specs.Logs.{IsFront, Slot, term_at}
 use Rattle.protocol.specs.History.{History}
 use Rattle.protocol.specs.Invariants.{Sound}
 use Rattle.protocol.specs.Moves.{Adds, Begin, Propose, after}
@@ -16,10 +16,14 @@ module _ (F need : ℕ) (g : History) (s : Sound F g) (a : AllNeed need g) (memb
       let match = (s.logs.log member).0.matches i from le in
       ap (λ b. g.need b i) (match.same i (le_refl _)) ∙ a (term_at (g.log member) i) i from match.right
 
-  pub begin_needs : AllNeed need (after g (Begin member (g.log member)))
-  begin_needs =
-      put_all (λ t log. (i : ℕ) → 0 < i → i ≤ length log → g.need (term_at log i) i ≡ need) (g.term member) (g.log member) g.led
-      log_needs (λ t apart. a t)
+  -- and each of what is left of it
+  front_needs : (log : List Slot) → IsFront log (g.log member) → (i : ℕ) → 0 < i → i ≤ length log → g.need (term_at log i) i ≡ need
+  front_needs log front i from le = ap (λ b. g.need b i) (front.same i le) ∙ log_needs i from (le_trans le front.right)
+
+  pub begin_needs : (log : List Slot) → IsFront log (g.log member) → AllNeed need (after g (Begin member log))
+  begin_needs log front =
+      put_all (λ t log. (i : ℕ) → 0 < i → i ≤ length log → g.need (term_at log i) i ≡ need) (g.term member) log g.led
+      (front_needs log front) (λ t apart. a t)
 
   -- an entry that is added needs as much, and no other entry changes
   still_needs :

@@ -17,7 +17,7 @@ use Rattle.bridge.specs.Agreement.{KnowsWithin, NodeAgrees}
 use Rattle.bridge.specs.Bridges.{OwnMoves}
 use Rattle.bridge.proofs.Facts.{all_heard_stays}
 use Rattle.bridge.proofs.Needs.{propose_needs}
-use Rattle.bridge.proofs.Starts.{items_within_more}
+use Rattle.bridge.proofs.Starts.{items_within_more, pages_leader}
 use Rattle.bridge.proofs.Steps.{own_move, reached_grows}
 use Rattle.bridge.proofs.Views.{append_seen}
 
@@ -70,5 +70,6 @@ module _
           items_within_more (length n.durable.log) _ (omega (arith, one_more)) n.volatile.heard leader.1,
         ) in
         subst (λ role. KnowsWithin role (length (n.durable.log ++ entry ∷ [])) n.volatile.first n.volatile.heard) (sym leads) more;
+    pages = pages_leader proposed n.durable.term _ n.volatile.pages leads;
     needs = propose_needs shape.faults shape.need g (sound_reached shape.faults g reached) a.needs member longer longer_adds;
   }

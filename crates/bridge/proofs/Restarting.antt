@@ -10,7 +10,7 @@ use Rattle.protocol.proofs.Counting.{put_same}
 use Rattle.bridge.specs.Views.{role_seen}
 use Rattle.bridge.specs.Agreement.{HeardAgrees, NodeAgrees}
 use Rattle.bridge.specs.Bridges.{OwnMoves}
-use Rattle.bridge.proofs.Starts.{knows_follower}
+use Rattle.bridge.proofs.Starts.{knows_follower, pages_follower}
 use Rattle.bridge.proofs.Steps.{own_move}
 
 pub restarts : {F : ℕ} (g : protocol.History) (member : ℕ) → OwnMoves F member g (after g (Restart member))
@@ -32,5 +32,6 @@ restarted_agrees {g = g} {member = member} {n = n} a volatile follows heard = re
   role = put_same member protocol.Follower g.role ∙ sym (ap role_seen follows);
   heard = heard;
   knows = knows_follower (length n.durable.log) volatile.first volatile.heard follows;
+  pages = pages_follower (after g (Restart member)) n.durable.term _ volatile.pages follows;
   needs = a.needs;
 }

@@ -9,3 +9,5 @@ pub mod Applying
 pub mod Call
 pub mod Append
 pub mod Matched
+pub mod Ask
+pub mod Answer

@@ -1,6 +1,9 @@
 -- Whole runs, by induction on the list of events.
 use Rattle.std.proofs.Common.{◌≡◌, ℕ, zero, suc, ◌+◌, List, [], ◌∷◌, take, refl, sym, subst, arith}
+use Rattle.std.specs.List.{All}
+use Rattle.std.proofs.lemmas.List.Elements.{All-head, All-tail}
 use Rattle.craft_base.specs.Shape.{IsShape, Shape}
+use Rattle.world_model.specs.Spelling.{IsLineOf}
 use Rattle.world_model.specs.World.{World, run_from, step}
 use Rattle.world_model.specs.declared.line.Line.{Line}
 use Rattle.protocol.specs.History.{History}
@@ -51,16 +54,16 @@ module _ {shape : Shape} {g : History} {w : World} (a : WorldAgrees shape g w) w
   }
 
 run_bridged :
-    (shape : Shape) → IsShape shape → (events : List Line) (g : History) (w : World) → Reached shape.faults g → WorldAgrees shape g w →
+    (shape : Shape) → IsShape shape → (events : List Line) → All (IsLineOf shape) events → (g : History) (w : World) → Reached shape.faults g → WorldAgrees shape g w →
     RunBridged shape g w events
-run_bridged shape is [] g w reached a = record { history = λ count. g; first = refl; moves = λ count. None_yet; agrees = no_events a }
-run_bridged shape is (event ∷ events) g w reached a =
-    let b : WorldBridged shape g (step w event).world = step_bridged reached is a event in
+run_bridged shape is [] within g w reached a = record { history = λ count. g; first = refl; moves = λ count. None_yet; agrees = no_events a }
+run_bridged shape is (event ∷ events) within g w reached a =
+    let b : WorldBridged shape g (step w event).world = step_bridged reached is a event (All-head (IsLineOf shape) event events within) in
     let later : Reached shape.faults b.history = moves_trans shape.faults _ g b.history reached b.moves in
-    one_more a event events b (run_bridged shape is events b.history (step w event).world later b.agrees)
+    one_more a event events b (run_bridged shape is events (All-tail (IsLineOf shape) event events within) b.history (step w event).world later b.agrees)
 
 pub runs_are_bridged : RunsAreBridged
-runs_are_bridged shape events run = run_bridged shape run.of_shape events _ _ None_yet (start_agrees shape)
+runs_are_bridged shape events run = run_bridged shape run.of_shape events run.in_range _ _ None_yet (start_agrees shape)
 
 module _ {shape : Shape} {g : History} {w : World} {events : List Line} (r : RunBridged shape g w events) where
   -- of a run's histories, each comes by moves of each before it

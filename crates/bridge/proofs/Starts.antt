@@ -8,15 +8,36 @@ use Rattle.std.proofs.lemmas.List.Elements.{All-cons, All-head, All-tail, All-we
 use Rattle.craft_base.specs.Knowledge.{Heard, Told, Beat, From, Voted, Matched, Refused, Answered, has_matched, is_admitted, least_of, least_refused, match_index, matched_to, next_index, refused_next, told_by}
 use Rattle.entry_frames.specs.declared.role.Role.{Role}
 use Rattle.entry_frames.specs.declared.role.Role.TheVariants.{Follower, Candidate, Preparing, Leader}
+use Rattle.coded_append.proofs.First.{start_is}
 use Rattle.world_model.specs.Nodes.{Node}
-use Rattle.world_model.specs.Rules.Say.{first_lacking, no_later_than, start_of}
-use Rattle.bridge.specs.Agreement.{ItemWithin, KnowsWithin}
+use Rattle.coded_append.specs.Starts.{start_for}
+use Rattle.coded_append.specs.declared.modes.Mode.{Mode}
+use Rattle.coded_append.specs.declared.modes.Mode.TheVariants.{Coded, Complete}
+use Rattle.world_model.specs.Ranges.{IsOfNoLog}
+use Rattle.world_model.specs.Rules.Say.{mode_of_leader, start_of}
+use Rattle.leader_prep.specs.Pages.{Page}
+use Rattle.protocol.specs.History.{History}
+use Rattle.bridge.specs.Agreement.{ItemWithin, KnowsWithin, PagesAgree}
 
 -- ---- what a node knows
 
 item_within_more : (last more : ℕ) → last ≤ more → (item : Heard) → ItemWithin last item → ItemWithin more item
 item_within_more last more le Beat within = tt
-item_within_more last more le (From sender at told) within = le_trans within le
+item_within_more last more le (From sender at (Voted granted)) within = tt
+item_within_more last more le (From sender at (Matched prev count mask)) within = le_trans within le
+item_within_more last more le (From sender at (Refused next)) within = le_trans within le
+item_within_more last more le (From sender at Answered) within = tt
+
+-- what says nothing of a log was heard with any
+no_log_within : (last : ℕ) (item : Heard) → IsOfNoLog item → ItemWithin last item
+no_log_within last Beat none = tt
+no_log_within last (From sender at (Voted granted)) none = tt
+no_log_within last (From sender at (Matched prev count mask)) none = absurd none
+no_log_within last (From sender at (Refused next)) none = absurd none
+no_log_within last (From sender at Answered) none = tt
+
+pub no_logs_within : (last : ℕ) (heard : List Heard) → All IsOfNoLog heard → All (ItemWithin last) heard
+no_logs_within last heard all = All-weaker IsOfNoLog (ItemWithin last) (no_log_within last) heard all
 
 pub items_within_more : (last more : ℕ) → last ≤ more → (heard : List Heard) → All (ItemWithin last) heard → All (ItemWithin more) heard
 items_within_more last more le heard all = All-weaker (ItemWithin last) (ItemWithin more) (item_within_more last more le) heard all
@@ -27,13 +48,40 @@ knows_follower last first heard follows =
     let any : KnowsWithin Follower last first heard = tt in
     subst (λ role. KnowsWithin role last first heard) (sym follows) any
 
+-- what a node of that role may hear
+abbrev pub IsHearable : Role → (last : ℕ) → Heard → Type 0
+IsHearable Follower last item = Unit {0}
+IsHearable Candidate last item = IsOfNoLog item
+IsHearable Preparing last item = IsOfNoLog item
+IsHearable Leader last item = ItemWithin last item
+
+pub no_log_hearable : (role : Role) (last : ℕ) (item : Heard) → IsOfNoLog item → IsHearable role last item
+no_log_hearable Follower last item none = tt
+no_log_hearable Candidate last item none = none
+no_log_hearable Preparing last item none = none
+no_log_hearable Leader last item none = no_log_within last item none
+
+pub leader_hearable : {role : Role} (last : ℕ) (item : Heard) → role ≡ Leader → ItemWithin last item → IsHearable role last item
+leader_hearable last item leads within = subst (λ role. IsHearable role last item) (sym leads) within
+
 pub knows_hearing :
-    (role : Role) (last first : ℕ) (item : Heard) (heard : List Heard) → ItemWithin last item → KnowsWithin role last first heard →
+    (role : Role) (last first : ℕ) (item : Heard) (heard : List Heard) → IsHearable role last item → KnowsWithin role last first heard →
     KnowsWithin role last first (item ∷ heard)
 knows_hearing Follower last first item heard within knows = tt
-knows_hearing Candidate last first item heard within knows = All-cons (ItemWithin last) item heard within knows
-knows_hearing Preparing last first item heard within knows = All-cons (ItemWithin last) item heard within knows
+knows_hearing Candidate last first item heard none knows = All-cons IsOfNoLog item heard none knows
+knows_hearing Preparing last first item heard none knows = All-cons IsOfNoLog item heard none knows
 knows_hearing Leader last first item heard within knows = (knows.0, All-cons (ItemWithin last) item heard within knows.1)
+
+-- who follows or leads sees no pages
+pub pages_follower : {role : Role} (h : History) (term : ℕ) (cursor : Option ℕ) (pages : List Page) → role ≡ Follower → PagesAgree role h term cursor pages
+pages_follower h term cursor pages follows =
+    let none : PagesAgree Follower h term cursor pages = tt in
+    subst (λ role. PagesAgree role h term cursor pages) (sym follows) none
+
+pub pages_leader : {role : Role} (h : History) (term : ℕ) (cursor : Option ℕ) (pages : List Page) → role ≡ Leader → PagesAgree role h term cursor pages
+pages_leader h term cursor pages leads =
+    let none : PagesAgree Leader h term cursor pages = tt in
+    subst (λ role. PagesAgree role h term cursor pages) (sym leads) none
 
 -- ---- what was heard lies within the log
 
@@ -97,15 +145,16 @@ module _ (member last : ℕ) where
       (λ matched. let within = match_within heard all in omega (arith, within))
       (λ none. or_first (least_refused member heard) first (refused_within heard all) le)
 
-no_later : (found : Option ℕ) (index : ℕ) → no_later_than found index ≤ index
-no_later None index = omega arith
-no_later (Some other) index = omega arith
-
 pub starts_within :
     (n : Node) → n.volatile.role ≡ Leader → KnowsWithin n.volatile.role (length n.durable.log) n.volatile.first n.volatile.heard →
     (member : ℕ) → start_of n member ≤ length n.durable.log + 1
 starts_within n leads knows member =
     let leader : KnowsWithin Leader (length n.durable.log) n.volatile.first n.volatile.heard =
     subst (λ role. KnowsWithin role (length n.durable.log) n.volatile.first n.volatile.heard) leads knows in
-    le_trans (no_later (first_lacking member n.durable.commit n.durable.log n.volatile.heard) (next_index member n.volatile.heard n.volatile.first))
-    (next_within member (length n.durable.log) n.volatile.heard n.volatile.first leader.0 leader.1)
+    in_mode (mode_of_leader n) (next_within member (length n.durable.log) n.volatile.heard n.volatile.first leader.0 leader.1)
+  where
+    in_mode :
+        (mode : Mode) → next_index member n.volatile.heard n.volatile.first ≤ length n.durable.log + 1 →
+        start_for mode member n.durable.commit n.durable.log n.volatile.heard n.volatile.first ≤ length n.durable.log + 1
+    in_mode Coded next = next
+    in_mode Complete next = le_trans (start_is member n.durable.commit n.durable.log n.volatile.heard n.volatile.first).no_later next

@@ -40,7 +40,7 @@ up_to_date theirs mine their_term their_last my_term my_last a b c d good =
 
 -- ---- at an index
 
-slot_at_seen : (log : List Entry) (i : ℕ) → slot_at (log_seen log) i ≡ option_map slot_seen (node.entry_at log i)
+pub slot_at_seen : (log : List Entry) (i : ℕ) → slot_at (log_seen log) i ≡ option_map slot_seen (node.entry_at log i)
 slot_at_seen log zero = refl
 slot_at_seen log (suc i) = slice_get-map slot_seen log i
 

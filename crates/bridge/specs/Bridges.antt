@@ -9,7 +9,7 @@ use Rattle.world_model.specs.declared.line.Line.{Line}
 use Rattle.protocol.specs.History.{History}
 use Rattle.protocol.specs.Moves.{Moves}
 use Rattle.protocol.specs.Growth.{Untouched}
-use Rattle.bridge.specs.Traced.{AllStand, CommitAgrees, MessageStands, ProposalAgrees, RemovalAgrees, holder}
+use Rattle.bridge.specs.Traced.{AllStand, CommitAgrees, MessageStands, PageStands, ProposalAgrees, RemovalAgrees, holder}
 use Rattle.bridge.specs.Agreement.{MessageAgrees, NodeAgrees, WorldAgrees}
 
 -- moves of one member alone, from one history to another
@@ -25,12 +25,13 @@ pub record ActBridged (shape : Shape) (g : History) (member : ℕ) (act : Act) :
   pub sends : All (MessageAgrees history) act.sends
 
 -- What an act of a member that had this durable state proposes, removes and commits agrees with the history. Once what it proposes is
--- in the book, each entry of its log stands there, and each that it sends.
+-- in the book, each entry of its log stands there, and each that it saw of others' logs and that it sends.
 pub record ActTraced (shape : Shape) (h : History) (book : List Proposal) (event member : ℕ) (before : Durable) (act : Act) : Type 0 where
   pub proposals : All (ProposalAgrees h) (proposals_in event act.node.volatile.role before act.records)
   pub removals : All (RemovalAgrees h) (removals_in event member before act.records)
   pub commits : All (CommitAgrees h) (leader_commits_in event act.node.volatile.role before act.records)
   pub log : AllStand (holder shape member) (book ++ proposals_in event act.node.volatile.role before act.records) 1 act.node.durable.log
+  pub pages : All (PageStands shape (book ++ proposals_in event act.node.volatile.role before act.records)) act.node.volatile.pages
   pub sends : All (MessageStands shape (book ++ proposals_in event act.node.volatile.role before act.records)) act.sends
 
 -- an act that is bridged and, whatever the number of its event, traced

@@ -5,19 +5,16 @@ use Rattle.std.proofs.lemmas.Bool.{and_parts, leb-true}
 use Rattle.std.proofs.lemmas.List.{append-nil}
 use Rattle.std.proofs.lemmas.Option.{none-some, same_Some}
 use Rattle.craft_base.specs.declared.command.Entry.{Entry}
-use Rattle.entry_frames.specs.Entries.{entry_room, is_whole}
+use Rattle.entry_frames.specs.Entries.{entry_room}
 use Rattle.entry_frames.specs.Logs.{entry_at, viewed_with}
 use Rattle.entry_frames.specs.MessageFields.{entry_size}
 use Rattle.entry_frames.specs.Views.{Viewed}
-use Rattle.coded_append.specs.Batches.{before_part, fitting}
-use Rattle.coded_append.specs.Ways.{sendable, sent_by}
+use Rattle.coded_append.specs.Batches.{fitting}
+use Rattle.coded_append.specs.Ways.{front, goes, going, sendable, sent_by}
+use Rattle.coded_append.specs.declared.forms.Way.TheVariants as ways
 use Rattle.coded_append.specs.declared.forms.Way.{Way}
 use Rattle.coded_append.proofs.Places.{drop_at_place, drop_past, entry_behind, viewed_some, viewed_none}
 use Rattle.coded_append.proofs.Sizes.{size_is_room}
-
--- what goes of these entries, were there room for all
-abbrev pub going : Way → List Entry → List Entry
-going way es = map (sent_by way) (before_part es)
 
 -- all go where entries go as they are
 pub going_whole : (es : List Entry) → map (λ (e : Entry). e) es ≡ es
@@ -26,23 +23,32 @@ going_whole (e ∷ es) = ap (λ (rest : List Entry). e ∷ rest) (going_whole es
 
 -- whether an entry goes
 abbrev is_sent : Way → ℕ → Entry → Bool
-is_sent way room e = is_whole e.form && nat_le (entry_room (sent_by way e)) room
+is_sent way room e = goes way e && nat_le (entry_room (sent_by way e)) room
+
+front_first : (way : Way) (e : Entry) (es : List Entry) → front way (e ∷ es) ≡ (if goes way e then e ∷ front way es else [])
+front_first ways.Held e es = refl
+front_first ways.Whole e es = refl
+front_first (ways.Part need member) e es = refl
+
+front_none : (way : Way) → front way [] ≡ []
+front_none ways.Held = refl
+front_none ways.Whole = refl
+front_none (ways.Part need member) = refl
 
 with_first : (k places room : ℕ) (way : Way) (e : Entry) (es : List Entry) (b : Bool) → is_sent way room e ≡ b
     → fitting k (suc places) room (going way (e ∷ es)) ≡ (if b then sent_by way e ∷ fitting k places (room - entry_size k (sent_by way e)) (going way es) else [])
-with_first k places room way e es b is = by_form (is_whole e.form) refl where
-  goes : Bool → List Entry
-  goes test = if test then sent_by way e ∷ fitting k places (room - entry_size k (sent_by way e)) (going way es) else []
-
-  by_form : (whole : Bool) → is_whole e.form ≡ whole
+with_first k places room way e es b is = by_test (goes way e) refl where
+  by_test : (does : Bool) → goes way e ≡ does
       → fitting k (suc places) room (going way (e ∷ es)) ≡ (if b then sent_by way e ∷ fitting k places (room - entry_size k (sent_by way e)) (going way es) else [])
-  by_form true t =
-      ap (λ (w : Bool). fitting k (suc places) room (map (sent_by way) (if w then e ∷ before_part es else []))) t
+  by_test true t =
+      ap (λ (xs : List Entry). fitting k (suc places) room (map (sent_by way) xs)) (front_first way e es)
+      ∙ ap (λ (w : Bool). fitting k (suc places) room (map (sent_by way) (if w then e ∷ front way es else []))) t
       ∙ ap (λ (n : ℕ). if nat_le n room then sent_by way e ∷ fitting k places (room - entry_size k (sent_by way e)) (going way es) else []) (size_is_room k (sent_by way e))
       ∙ ap (λ (w : Bool). if w then sent_by way e ∷ fitting k places (room - entry_size k (sent_by way e)) (going way es) else [])
       (sym (ap (λ (w : Bool). w && nat_le (entry_room (sent_by way e)) room) t) ∙ is)
-  by_form false t =
-      ap (λ (w : Bool). fitting k (suc places) room (map (sent_by way) (if w then e ∷ before_part es else []))) t
+  by_test false t =
+      ap (λ (xs : List Entry). fitting k (suc places) room (map (sent_by way) xs)) (front_first way e es)
+      ∙ ap (λ (w : Bool). fitting k (suc places) room (map (sent_by way) (if w then e ∷ front way es else []))) t
       ∙ ap (λ (w : Bool). if w then sent_by way e ∷ fitting k places (room - entry_size k (sent_by way e)) (going way es) else [])
       (sym (ap (λ (w : Bool). w && nat_le (entry_room (sent_by way e)) room) t) ∙ is)
 
@@ -58,7 +64,9 @@ sent_is way room (Some x) e is = one (is_sent way room x) refl where
 
 none_left : (k places room : ℕ) (way : Way) (es : List Entry) → es ≡ [] → fitting k places room (going way es) ≡ []
 none_left k zero room way es is = refl
-none_left k (suc places) room way es is = ap (λ (xs : List Entry). fitting k (suc places) room (going way xs)) is
+none_left k (suc places) room way es is =
+    ap (λ (xs : List Entry). fitting k (suc places) room (going way xs)) is
+    ∙ ap (λ (xs : List Entry). fitting k (suc places) room (map (sent_by way) xs)) (front_none way)
 
 unsent_is : (k places room : ℕ) (way : Way) (es : List Entry) (n : ℕ) → sendable way room (slice_get es n) ≡ None → fitting k places room (going way (drop n es)) ≡ []
 unsent_is k zero room way es n is = refl
@@ -78,12 +86,12 @@ looked_at : (k room start place index : ℕ) (way : Way) (log : List Entry) (o :
 looked_at k room start place index way log o least at is =
     is ∙ ap (λ (e : Option Entry). viewed_with k (sendable way room e)) (entry_behind log (start - 1) place index (omega (arith, at, least)))
 
--- what goes is held whole, and there is room for it
+-- what is sent goes, and there is room for it
 pub goes_is : (k room : ℕ) (way : Way) (o : Option Entry) (v : Viewed) → Some v ≡ viewed_with k (sendable way room o)
-    → (is_whole v.entry.form ≡ true) × (entry_room (sent_by way v.entry) ≤ room)
+    → (goes way v.entry ≡ true) × (entry_room (sent_by way v.entry) ≤ room)
 goes_is k room way o v is =
     let s = sent_is way room o v.entry (viewed_some k (sendable way room o) v is) in
-    let parts = and_parts (is_whole v.entry.form) (nat_le (entry_room (sent_by way v.entry)) room) s.1 in
+    let parts = and_parts (goes way v.entry) (nat_le (entry_room (sent_by way v.entry)) room) s.1 in
     (parts.0, leb-true (entry_room (sent_by way v.entry)) room parts.1)
 
 pub sent_more : (k j room start place index : ℕ) (way : Way) (log batch whole : List Entry) (v : Viewed) → 1 ≤ start → place < 8 → index ≡ start + place

@@ -1,10 +1,10 @@
-//! The entries that a leader sends to a member.
-ghost use Rattle.std.specs.Prelude.{◌≡◌, ◌≤◌, ◌+◌, ◌-◌, ℕ, drop, length, map, Some, IfOk};
-ghost use Rattle.coded_append.specs.Batches.{batch_of, before_part, coded_batch, whole_batch};
-ghost use Rattle.coded_append.specs.Ways.{IsWay, sendable, sent_by};
+//! The entries of a log that go in one message.
+ghost use Rattle.std.specs.Prelude.{◌≡◌, ◌≤◌, ◌+◌, ◌-◌, ℕ, drop, length, Some, IfOk};
+ghost use Rattle.coded_append.specs.Batches.{batch_of, coded_batch, whole_batch};
+ghost use Rattle.coded_append.specs.Ways.{IsWay, going, sendable};
 ghost use Rattle.entry_frames.specs.Logs.{entry_at, viewed_with};
 
-use crate::forms::{Way, sent_entry, sent_size};
+use crate::forms::{Way, goes, sent_entry, sent_size};
 use craft_base::{MemberId, OutOfMemory, Shape};
 use entry_frames::{Batch, EntryView, LogView, MOST_ENTRIES, MOST_ENTRY_BYTES};
 use std::alloc::Global;
@@ -37,12 +37,25 @@ pub fn whole_batch<L: LogView>(alloc: Global, log: &L, start: u64) -> Result<Bat
     batch_of(alloc, log, &Way::Whole, start)
 }
 
-/// The entries of the log from an index on, each in the form in which it goes, as many as one message has room for.
+/// The entries of the log from the index `start` on in the forms in which it holds them, as a member shows them to who prepares
+/// to lead: at most 8, of at most 56,000 bytes, and none where `start` is behind the last. The only error is want of memory.
+pub fn page_from<L: LogView>(alloc: Global, log: &L, start: u64) -> Result<Batch, OutOfMemory>
+    requires { 1 ≤ start }
+    ensures { IfOk result (λ batch. batch ≡ batch_of (L.log log.now).k (drop (start - 1) (L.log log.now).entries)) }
+{
+    if start > log.last() {
+        return Ok(Batch::new());
+    }
+    batch_of(alloc, log, &Way::Held, start)
+}
+
+/// The entries of the log from an index on, each in the form in which it goes, as many as one message has room for. They end
+/// before the first that doesn't go.
 fn batch_of<L: LogView>(alloc: Global, log: &L, way: &Way, start: u64) -> Result<Batch, OutOfMemory>
     requires way { IsWay way.now }
     requires least { 1 ≤ start }
     requires most { start ≤ length (L.log log.now).entries + 1 }
-    ensures { IfOk result (λ batch. (k : ℕ) → batch ≡ batch_of k (map (sent_by way.now) (before_part (drop (start - 1) (L.log log.now).entries)))) }
+    ensures { IfOk result (λ batch. (k : ℕ) → batch ≡ batch_of k (going way.now (drop (start - 1) (L.log log.now).entries))) }
 {
     let mut batch = Batch::new();
     let mut room = MOST_ENTRY_BYTES;
@@ -58,7 +71,7 @@ fn batch_of<L: LogView>(alloc: Global, log: &L, way: &Way, start: u64) -> Result
     Ok(batch)
 }
 
-/// The entry at that index, where the log holds it whole and there is room for the bytes in which it goes.
+/// The entry at that index, where it goes and there is room for the bytes in which it does.
 fn sendable<'a, L: LogView>(log: &'a L, index: u64, way: &Way, room: usize) -> Option<EntryView<'a>>
     requires { IsWay way.now }
     ensures { result ≡ viewed_with (L.log log.now).k (sendable way.now room (entry_at (L.log log.now).entries index)) }
@@ -69,12 +82,12 @@ fn sendable<'a, L: LogView>(log: &'a L, index: u64, way: &Way, room: usize) -> O
     }
 }
 
-/// The entry, where it is whole and there is room for the bytes in which it goes.
+/// The entry, where it goes and there is room for the bytes in which it does.
 fn if_it_fits<'a>(view: EntryView<'a>, way: &Way, room: usize) -> Option<EntryView<'a>>
     requires { IsWay way.now }
     ensures { result ≡ viewed_with view.entry.k (sendable way.now room (Some view.entry.entry)) }
 {
-    if view.is_whole() && sent_size(&view, way) <= room {
+    if goes(&view, way) && sent_size(&view, way) <= room {
         Some(view)
     } else {
         None

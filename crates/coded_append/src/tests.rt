@@ -1,6 +1,6 @@
 //! What the contracts don't say: that they mean CRaft's ways of sending, on logs worked out by hand.
 use crate::kept_log::KeptLog;
-use crate::{Mode, coded_batch, mode, start_for, whole_batch};
+use crate::{Mode, coded_batch, mode, page_from, start_for, whole_batch};
 use craft_base::{Form, Known, MemberId, Shape};
 use entry_frames::{Batch, EntryView, LogView};
 use heard_book::Heard;
@@ -72,6 +72,12 @@ fn whole(rt: &impl Abort, alloc: Global, log: &KeptLog<'_>, start: u64) -> Resul
     Ok(whole_batch(alloc, log, start)?)
 }
 
+/// What is shown from an index on.
+fn page(rt: &impl Abort, alloc: Global, log: &KeptLog<'_>, start: u64) -> Result<Batch, Fail> {
+    assert!(rt; start >= 1, "from {start}");
+    Ok(page_from(alloc, log, start)?)
+}
+
 /// The forms of a batch, with the bytes held.
 fn forms_of(alloc: Global, batch: &Batch) -> Result<String, Fail> {
     let mut text = String::new(alloc);
@@ -135,6 +141,25 @@ fn nothing_goes_from_the_first_held_part_on(rt: HostRuntime) -> Result<(), Fail>
 }
 
 #[test]
+fn a_page_shows_held_parts_too(rt: HostRuntime) -> Result<(), Fail> {
+    let alloc = rt.alloc();
+    let bytes = joined(alloc, &[PUT, PART, NOOP])?;
+    let log = log_of(alloc, &bytes, 0)?;
+    for (start, want) in [
+        (1, "w[0, 128]p[29]w[]"),
+        (2, "p[29]w[]"),
+        (3, "w[]"),
+        (4, ""),
+        (5, ""),
+        (u64::MAX, ""),
+    ] {
+        let batch = page(&rt, alloc, &log, start)?;
+        assert_eq!(rt; forms_of(alloc, &batch)?.as_str(), want, "from {start}");
+    }
+    Ok(())
+}
+
+#[test]
 fn at_most_eight_entries_go(rt: HostRuntime) -> Result<(), Fail> {
     let alloc = rt.alloc();
     let bytes = joined(alloc, &[PUT, PUT, PUT, PUT, PUT, PUT, PUT, PUT, PUT])?;
@@ -144,6 +169,8 @@ fn at_most_eight_entries_go(rt: HostRuntime) -> Result<(), Fail> {
         assert_eq!(rt; batch.len(), want, "from {start}");
         let batch = whole(&rt, alloc, &log, start)?;
         assert_eq!(rt; batch.len(), want, "whole from {start}");
+        let batch = page(&rt, alloc, &log, start)?;
+        assert_eq!(rt; batch.len(), want, "shown from {start}");
     }
     Ok(())
 }
@@ -171,6 +198,21 @@ fn bytes_are_counted_as_they_go(rt: HostRuntime) -> Result<(), Fail> {
         let log = log_of(alloc, &bytes, 0)?;
         assert_eq!(rt; coded(&rt, alloc, &log, 1, 1)?.len(), want, "with {len}");
         assert_eq!(rt; whole(&rt, alloc, &log, 1)?.len(), 1);
+    }
+    Ok(())
+}
+
+// Two of 28,000 bytes are 56,000 bytes.
+#[test]
+fn at_most_56_000_bytes_go(rt: HostRuntime) -> Result<(), Fail> {
+    let alloc = rt.alloc();
+    for (len, want) in [(27_968, 2), (27_969, 1)] {
+        let mut bytes = Vec::new(alloc);
+        push_put(alloc, &mut bytes, 27_968)?;
+        push_put(alloc, &mut bytes, len)?;
+        let log = log_of(alloc, &bytes, 0)?;
+        assert_eq!(rt; whole(&rt, alloc, &log, 1)?.len(), want, "whole with {len}");
+        assert_eq!(rt; page(&rt, alloc, &log, 1)?.len(), want, "shown with {len}");
     }
     Ok(())
 }

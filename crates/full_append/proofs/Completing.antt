@@ -10,7 +10,8 @@ use Rattle.entry_frames.specs.Entries.{form_bytes, is_whole}
 use Rattle.entry_frames.specs.Records.{Record, Whole, first_number}
 use Rattle.full_append.specs.Comparisons.{entry_after, whole_indexes}
 use Rattle.full_append.proofs.Comparing.{common_same, common_other, wholes_same, wholes_other}
-use Rattle.world_model.specs.Rules.Append.{common, completion, completion_of, completions, is_same_head}
+use Rattle.leader_prep.specs.Verdicts.{is_same_head}
+use Rattle.world_model.specs.Rules.Append.{common, completion, completion_of, completions}
 
 -- ---- one entry
 

@@ -5,7 +5,6 @@ pub mod Masks
 pub mod Noting
 pub mod Completing
 pub mod Differing
-pub mod Sending
 pub mod LogsAfter
 pub mod Naming
 pub mod Carrying

@@ -27,19 +27,13 @@ drop_next (y ∷ xs) (suc n) x e = drop_next xs n x e
 pub drop_at_place : {A : Type 0} (xs : List A) (n : ℕ) (x : A) → slice_get xs n ≡ Some x → drop n xs ≡ x ∷ drop (n + 1) xs
 drop_at_place xs n x e = drop_next xs n x e ∙ ap (λ (m : ℕ). x ∷ drop m xs) (sym (add-one n))
 
-pub drop_past : {A : Type 0} (xs : List A) (n : ℕ) → slice_get xs n ≡ None → drop n xs ≡ []
-drop_past [] zero e = refl
-drop_past [] (suc n) e = refl
-drop_past (y ∷ xs) zero e = absurd (none-some y (sym e))
-drop_past (y ∷ xs) (suc n) e = drop_past xs n e
-
 zero_add : (n : ℕ) → n ≡ 0 + n
 zero_add n = omega arith
 
 suc_add : (p n : ℕ) → suc (p + n) ≡ suc p + n
 suc_add p n = omega arith
 
-pub place_behind : {A : Type 0} (xs : List A) (p n : ℕ) → slice_get (drop p xs) n ≡ slice_get xs (p + n)
+place_behind : {A : Type 0} (xs : List A) (p n : ℕ) → slice_get (drop p xs) n ≡ slice_get xs (p + n)
 place_behind xs zero n = ap (slice_get xs) (zero_add n)
 place_behind [] (suc p) n = refl
 place_behind (x ∷ xs) (suc p) n = place_behind xs p n ∙ ap (slice_get (x ∷ xs)) (suc_add p n)
@@ -61,7 +55,3 @@ viewed_some k (Some e) v is = ap (λ (x : Viewed). Some x.entry) (same_item (rec
 pub viewed_none : (k : ℕ) (o : Option Entry) → None ≡ viewed_with k o → o ≡ None
 viewed_none k None is = refl
 viewed_none k (Some e) is = absurd (none-some (record { k = k; entry = e }) is)
-
-pub viewed_k : (k : ℕ) (o : Option Entry) (v : Viewed) → Some v ≡ viewed_with k o → v.k ≡ k
-viewed_k k None v is = absurd (none-some v (sym is))
-viewed_k k (Some e) v is = ap (λ (x : Viewed). x.k) (sym (same_item (record { k = k; entry = e }) v (sym is)))

@@ -14,7 +14,7 @@ use Rattle.world_model.specs.Rules.Append.{mask_of}
 abbrev pub bit_of : Entry → ℕ
 bit_of e = if is_whole e.form then 1 else 0
 
-pub same_whole : (form : Form) → entries.is_whole form ≡ is_whole form
+same_whole : (form : Form) → entries.is_whole form ≡ is_whole form
 same_whole (forms.Whole bytes) = refl
 same_whole (forms.Part bytes) = refl
 

@@ -5,7 +5,8 @@ use Rattle.craft_base.specs.declared.command.Form.TheVariants as forms
 use Rattle.entry_frames.specs.Entries.{is_whole, form_bytes}
 use Rattle.entry_frames.specs.Records.{first_number}
 use Rattle.full_append.specs.declared.compared.Comparison.{Comparison}
-use Rattle.world_model.specs.Rules.Append.{common, completion, is_same_head, mask_of}
+use Rattle.leader_prep.specs.Verdicts.{is_same_head}
+use Rattle.world_model.specs.Rules.Append.{common, completion, mask_of}
 
 -- ---- one entry
 

@@ -1,6 +1,6 @@
 //! Whole values in place of parts.
 ghost use Rattle.std.specs.Prelude.{◌≡◌, ◌<◌, ◌*◌, ◌^◌, ◌≤◌, if◌then◌else◌};
-ghost use Rattle.world_model.specs.Rules.Append.{is_same_op, is_same_head};
+ghost use Rattle.leader_prep.specs.Verdicts.{is_same_op, is_same_head};
 ghost use Rattle.full_append.specs.Comparisons.{completes};
 
 use craft_base::Op;

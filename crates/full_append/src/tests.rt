@@ -1,12 +1,12 @@
 //! What the contracts don't say: that calls succeed, on logs and messages worked out by hand.
-use crate::{Plan, take_append, whole_batch};
+use crate::{Plan, take_append};
 use craft_base::{MemberId, Shape};
 use craft_edge::Disk;
 use crash_disk::MemDisk;
 use entry_frames::{Kind, LogView, PeerKind};
 use log_store::LogStore;
 use peer_frames::MessageView;
-use std::alloc::{AllocError, Global};
+use std::alloc::Global;
 use std::process::Abort;
 use std::test::Fail;
 use synced_log::Journal;
@@ -143,61 +143,6 @@ fn each_append_is_planned_as_worked_out(rt: HostRuntime) -> Result<(), Fail> {
     for (body, want) in PLANS {
         let plan = plan_on(&rt, alloc, &log, body)?;
         assert_eq!(rt; format!(in alloc; "{plan:?}")?.as_str(), want, "on {body}");
-    }
-    Ok(())
-}
-
-/// How many entries are sent from an index on.
-fn sent_from(rt: &impl Abort, alloc: Global, log: &LogStore, start: u64) -> Result<u8, Fail> {
-    assert!(rt; start >= 1 && start <= log.last() + 1, "from {start}");
-    Ok(whole_batch(alloc, log, start)?.len())
-}
-
-#[test]
-fn at_most_eight_whole_entries_are_sent(rt: HostRuntime) -> Result<(), Fail> {
-    let alloc = rt.alloc();
-    let mut records = bytes_of(alloc, "01 0000000000000009 ff")?;
-    let noop = bytes_of(
-        alloc,
-        "02 01 00 0000000000000001 0000000000000000 0000000000000000 00",
-    )?;
-    for _ in 0..9 {
-        records.extend_from_slice(&noop)?;
-    }
-    let log = replayed(alloc, &records)?;
-    for (start, want) in [(1, 8), (2, 8), (3, 7), (9, 1), (10, 0)] {
-        assert_eq!(rt; sent_from(&rt, alloc, &log, start)?, want, "from {start}");
-    }
-    let parted = replayed(alloc, &bytes_of(alloc, RECORDS)?)?;
-    for (start, want) in [(1, 1), (2, 0), (3, 1), (4, 0)] {
-        assert_eq!(rt;
-            sent_from(&rt, alloc, &parted, start)?,
-            want,
-            "from {start}"
-        );
-    }
-    Ok(())
-}
-
-/// Adds the record of a Put of a value of that length: an entry of 32 bytes more.
-fn push_put(alloc: Global, records: &mut Vec<u8>, len: u32) -> Result<(), AllocError> {
-    let head = [2, 1, 1, 0, 0, 0, 0, 0, 0, 0, 9, 0, 0, 0, 0, 0, 0, 0, 7];
-    records.extend_from_slice(&head)?;
-    records.extend_from_slice(&[0, 0, 0, 0, 0, 0, 0, 8, 1, 0x6b])?;
-    records.extend_from_slice(&len.to_be_bytes())?;
-    records.extend_from_slice(&vec![in alloc; 0x76; len as usize]?)?;
-    Ok(())
-}
-
-#[test]
-fn at_most_56_000_bytes_are_sent(rt: HostRuntime) -> Result<(), Fail> {
-    let alloc = rt.alloc();
-    for (len, want) in [(27_968, 2), (27_969, 1)] {
-        let mut records = bytes_of(alloc, "01 0000000000000009 ff")?;
-        push_put(alloc, &mut records, 27_968)?;
-        push_put(alloc, &mut records, len)?;
-        let log = replayed(alloc, &records)?;
-        assert_eq!(rt; sent_from(&rt, alloc, &log, 1)?, want, "with {len}");
     }
     Ok(())
 }

@@ -1,7 +1,10 @@
 -- Where parts have a value, the first that is found among all lists is it.
-use Rattle.std.proofs.Common.{◌≡◌, ℕ, zero, suc, ◌+◌, ◌*◌, ◌<◌, ◌≤◌, List, [], ◌∷◌, length, map, take, Bool, true, false, Option, Some, refl, ap, sym, ◌∙◌, arith, subst, cond, eq-eqb, ◌⊎◌, inl, inr}
+use Rattle.std.proofs.Common.{◌≡◌, ℕ, zero, suc, ◌+◌, ◌*◌, ◌<◌, ◌≤◌, List, [], ◌∷◌, length, length-take, map, replicate, take, Bool, true, false, Option, None, Some, refl, ap, sym, ◌∙◌, arith, subst, cond, eq-eqb, ◌⊎◌, inl, inr}
 use Rattle.std.specs.Prelude.{◌==◌, ◌&&◌, ◌||◌, nat_lt, slice_index, slice_index_or, unwrap_or}
 use Rattle.std.specs.List.{find, flat_map, list_all, list_any, range_with_len}
+use Rattle.std.proofs.lemmas.Grind.{div_ceil_times}
+use Rattle.std.proofs.lemmas.List.{length-replicate}
+use Rattle.std.proofs.lemmas.Option.{same_Some}
 use Rattle.std.proofs.lemmas.Bool.{cases_lt, eqb-true, lt-ltb, ltb-true}
 use Rattle.std.proofs.lemmas.List.Folds.{list_any-append}
 use Rattle.std.proofs.lemmas.List.Sums.{AllPass-from_list_all, list_all-from_AllPass}
@@ -141,7 +144,37 @@ pub solution_solves : (rebuilding : Rebuilding) (value : List ℕ) → Solves re
 unfolding solution
 solution_solves rebuilding value solves =
     let first = first_of_all rebuilding value solves in
-    subst (λ (o : Option (List ℕ)). Solves rebuilding (take rebuilding.value_length (unwrap_or o []))) (sym first.found) (solved_by rebuilding first.item first.passes)
+    subst (λ (o : Option (List ℕ)). Solves rebuilding (take rebuilding.value_length (unwrap_or o (replicate (rebuilding.need * size_of rebuilding) 0)))) (sym first.found)
+    (solved_by rebuilding first.item first.passes)
+
+-- what is found passes
+passes_of : (p : List ℕ → Bool) (lists : List (List ℕ)) (item : List ℕ) → find p lists ≡ Some item → p item ≡ true
+passes_of p [] item is = absurd cc
+passes_of p (xs ∷ lists) item is = by (p xs) refl is (passes_of p lists item) where
+  by : (hit : Bool) → p xs ≡ hit → cond hit (Some xs) (find p lists) ≡ Some item → (find p lists ≡ Some item → p item ≡ true) → p item ≡ true
+  by true here found later = ap p (sym (same_Some xs item found)) ∙ here
+  by false here found later = later found
+
+-- it is as long as the value, whatever the parts are
+pub solution_long : (rebuilding : Rebuilding) → 1 ≤ rebuilding.need → length (solution rebuilding) ≡ rebuilding.value_length
+unfolding solution
+solution_long rebuilding some = one (find (is_solution rebuilding) (lists_below 256 (rebuilding.need * size_of rebuilding))) refl where
+  all : ℕ
+  all = rebuilding.need * size_of rebuilding
+
+  room : rebuilding.value_length ≤ all
+  room = omega (arith, div_ceil_times rebuilding.value_length rebuilding.need some)
+
+  zeros : List ℕ
+  zeros = replicate {A = ℕ} all 0
+
+  one : (o : Option (List ℕ)) → find (is_solution rebuilding) (lists_below 256 all) ≡ o → length (take rebuilding.value_length (unwrap_or o zeros)) ≡ rebuilding.value_length
+  one None none = omega (arith, room, length-take rebuilding.value_length zeros, length-replicate {A = ℕ} all 0)
+  one (Some joined) found =
+      let passes = passes_of (is_solution rebuilding) (lists_below 256 all) joined found in
+      let front = of_and ((length joined == all) && list_all (λ byte. nat_lt byte 256) joined) (list_all (lies_on rebuilding.need (size_of rebuilding) joined) rebuilding.parts) passes in
+      let long : length joined ≡ all = eqb-true (length joined) all (of_and (length joined == all) (list_all (λ byte. nat_lt byte 256) joined) front.0).0 in
+      omega (arith, room, long, length-take rebuilding.value_length joined)
 
 -- the value that is had from there
 value_is : (source : Source) (bytes : List ℕ) → IsValue source bytes → bytes ≡ value_of source

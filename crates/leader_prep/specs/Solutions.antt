@@ -1,5 +1,5 @@
 -- The value that parts give, as a function of the parts.
-use Rattle.std.specs.Prelude.{ℕ, zero, suc, ◌*◌, List, [], ◌∷◌, length, map, take, Bool, ◌&&◌, ◌==◌, nat_lt, slice_index, unwrap_or}
+use Rattle.std.specs.Prelude.{ℕ, zero, suc, ◌*◌, List, [], ◌∷◌, length, map, replicate, take, Bool, ◌&&◌, ◌==◌, nat_lt, slice_index, unwrap_or}
 use Rattle.std.specs.List.{find, flat_map, list_all, range_with_len}
 use Rattle.leader_prep.specs.Decisions.{Rebuilt}
 use Rattle.leader_prep.specs.Verdicts.{Parts, Source, Whole}
@@ -24,10 +24,11 @@ unfoldable pub lists_below : (most : ℕ) → ℕ → List (List ℕ)
 lists_below most zero = [] ∷ []
 lists_below most (suc n) = flat_map (λ first. map (λ rest. first ∷ rest) (lists_below most n)) (range_with_len 0 most)
 
--- Solution: the beginning of the first joined pieces on which each part lies; no bytes where there are none
+-- Solution: the beginning of the first joined pieces on which each part lies; zeros where there are none
 unfoldable pub solution : Rebuilding → List ℕ
 solution rebuilding =
-    take rebuilding.value_length (unwrap_or (find (is_solution rebuilding) (lists_below 256 (rebuilding.need * size_of rebuilding))) [])
+    take rebuilding.value_length
+    (unwrap_or (find (is_solution rebuilding) (lists_below 256 (rebuilding.need * size_of rebuilding))) (replicate (rebuilding.need * size_of rebuilding) 0))
 
 -- the value that comes from there
 abbrev pub value_of : Source → List ℕ

@@ -1,5 +1,5 @@
 -- A member that has applied entries of its log and then commits it up to there.
-use Rattle.std.proofs.Common.{◌≡◌, ℕ, ◌<◌, ◌≤◌, nat_lt, max, List, [], ◌∷◌, ◌++◌, length, take, filter, refl, ap, sym, subst, ◌∙◌, arith, append-nil}
+use Rattle.std.proofs.Common.{◌≡◌, ℕ, ◌<◌, ◌≤◌, nat_lt, max, List, [], ◌∷◌, ◌++◌, length, filter, ap, sym, subst, ◌∙◌, arith, append-nil}
 use Rattle.craft_base.specs.Shape.{Shape}
 use Rattle.craft_base.specs.Knowledge.{Heard}
 use Rattle.entry_frames.specs.Durable.{Durable, applied}
@@ -8,12 +8,14 @@ use Rattle.entry_frames.specs.Records.{Commit, record_fields, record_spellings}
 use Rattle.heard_book.specs.Kept as known
 use Rattle.kv_apply.specs.Services as services
 use Rattle.world_model.specs.Nodes.{Node}
-use Rattle.world_model.specs.Rules.Applying.{act_of_applying, newly_committed, replies_among, waiting}
+use Rattle.world_model.specs.Rules.Prepare.{cursor_at}
+use Rattle.world_model.specs.Rules.Applying.{act_of_applying, newly_committed, replies_among}
 use Rattle.world_model.specs.declared.call.Called.{Called}
 use Rattle.node_core.specs.declared.act.Act.{Act}
 use Rattle.node_core.specs.declared.member.Member.{Member}
-use Rattle.node_core.specs.Acting.{IsActed, IsMade, IsNode}
+use Rattle.node_core.specs.Acting.{IsActed, IsFree, IsMade, IsNode}
 use Rattle.node_core.specs.Serving.{Serves, heads_up_to}
+use Rattle.node_core.proofs.Showing.{free_shown}
 
 module _
     (index : ℕ) (before served made after : Act) (serves : Serves before.member.store.kept.commit index before served) (is_made : IsMade (Commit index) served made)
@@ -21,7 +23,8 @@ module _
     (settled : after.member.heard.window.settled ≡ max made.member.heard.window.settled index)
     (still : (shape : Shape) (list : List Heard) (first : ℕ) → known.Stands made.member.heard shape list first → known.Stands after.member.heard shape list first)
     (waits : after.member.calls.items ≡ filter (λ c. nat_lt index c.index) made.member.calls.items)
-    (above : before.member.store.kept.commit < index) (within : index ≤ length before.member.store.kept.log) (fits : Fits (record_fields before.member.store.shape.need) (Commit index)) where
+    (above : before.member.store.kept.commit < index) (within : index ≤ length before.member.store.kept.log) (fits : Fits (record_fields before.member.store.shape.need) (Commit index))
+    (free : IsFree before.member) where
   -- the member as it was made, by what it was
   made_member : made.member ≡ record before.member { store = made.member.store; service = served.member.service }
   made_member = is_made.member ∙ ap (λ (a : Act). record a.member { store = made.member.store }) serves.rest
@@ -58,6 +61,7 @@ module _
             of_heard = still n.shape n.volatile.heard n.volatile.first
                 (subst (λ (h : known.Kept). known.Stands h n.shape n.volatile.heard n.volatile.first) (sym (ap (λ (x : Member). x.heard) made_member)) s.of_heard);
             settled = omega (arith, settled, settled_before, s.settled, commit, above);
+            of_prep = free_shown m.prep n.shape n.me n.volatile.pages m.role (cursor_at node) free;
             of_calls = waits ∙ ap (λ (cs : List Called). filter (λ c. nat_lt index c.index) cs) calls;
           };
           of_store = shape_now ∙ is.of_store;

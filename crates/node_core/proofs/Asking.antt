@@ -1,5 +1,5 @@
 -- A request that a leader hasn't answered before: whether its log has room, and what is sent of it.
-use Rattle.std.proofs.Common.{◌≡◌, ℕ, ◌+◌, ◌<◌, ◌≤◌, nat_le, Bool, true, false, cond, List, [], ◌∷◌, ◌++◌, length, refl, ap, sym, subst, ◌∙◌, arith, length-append}
+use Rattle.std.proofs.Common.{◌≡◌, ℕ, ◌+◌, ◌<◌, nat_le, Bool, true, false, cond, List, [], ◌∷◌, ◌++◌, length, refl, ap, sym, subst, ◌∙◌, arith, length-append}
 use Rattle.std.specs.Prelude.{◌||◌}
 use Rattle.std.specs.List.{All}
 use Rattle.std.proofs.lemmas.Bool.{leb-false}
@@ -13,6 +13,7 @@ use Rattle.entry_frames.specs.declared.role.Role.TheVariants.{Leader}
 use Rattle.world_model.specs.Nodes.{Node}
 use Rattle.world_model.specs.Ranges.{ItemInRange, NodeInRange}
 use Rattle.world_model.specs.Rules.Call as rule
+use Rattle.world_model.specs.Rules.Say.{mode_of_leader}
 use Rattle.world_model.proofs.Ranges.Call.{item_longer}
 use Rattle.world_model.proofs.Ranges.Knowing.{knows_as}
 use Rattle.world_model.proofs.Ranges.Starts.{starts_within}
@@ -55,4 +56,4 @@ asking_starts {n = n} a leads place r = λ receiver.
     let heard : All (ItemInRange (length log)) n.volatile.heard =
     subst (λ (last : ℕ). All (ItemInRange last) n.volatile.heard) (sym longer)
     (All-weaker (ItemInRange (length n.durable.log)) (ItemInRange (length n.durable.log + 1)) (item_longer (length n.durable.log)) n.volatile.heard knows.2) in
-    starts_within receiver n.durable.commit log n.volatile.heard n.volatile.first heard (knows.0, omega (arith, knows.1, longer))
+    starts_within (mode_of_leader n) receiver n.durable.commit log n.volatile.heard n.volatile.first heard (knows.0, omega (arith, knows.1, longer))

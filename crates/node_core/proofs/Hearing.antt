@@ -5,7 +5,7 @@ use Rattle.craft_base.specs.Shape.{Shape, IsShape}
 use Rattle.entry_frames.specs.Formats.{U64}
 use Rattle.entry_frames.specs.Kinds.{kind_of, peer_kind}
 use Rattle.entry_frames.specs.Limits.{last_place}
-use Rattle.entry_frames.specs.MessageParts.{IsPeer, body_of, commit_of, entries_of, granted_of, last_of, last_term_of, mask_of, next_of, prev_of, prev_term_of, receiver_byte, sender_byte, term_of, verdict_of}
+use Rattle.entry_frames.specs.MessageParts.{IsPeer, body_of, commit_of, entries_of, granted_of, last_of, last_term_of, mask_of, next_of, prev_of, prev_term_of, receiver_byte, sender_byte, start_of, term_of, verdict_of}
 use Rattle.entry_frames.specs.declared.kind.Kind.TheVariants as kinds
 use Rattle.entry_frames.specs.declared.kind.PeerKind.{PeerKind}
 use Rattle.entry_frames.specs.declared.kind.PeerKind.TheVariants as peer_kinds
@@ -16,7 +16,7 @@ use Rattle.entry_frames.specs.declared.peer.Peer.TheVariants as peers
 use Rattle.peer_frames.specs.FrameViews.{entries_told}
 use Rattle.world_model.specs.Nodes.{Node}
 use Rattle.world_model.specs.Ranges.{HasSpelling, NodeInRange}
-use Rattle.world_model.specs.Rules.Acts.{followed_by, stays}
+use Rattle.world_model.specs.Rules.Acts.{followed_by}
 use Rattle.world_model.specs.Rules.Terms.{act_of_lower_term, act_of_term}
 use Rattle.world_model.specs.Turn.{act_of_message, act_of_peer}
 use Rattle.world_model.proofs.Frames.{body_spelled, ends_of, lies_within}
@@ -127,29 +127,40 @@ next_least shape (messages.Peer from to at (peers.Answer start last slots)) spel
 next_least shape (messages.Request to request) spelled kind verdict = absurd spelled.0
 next_least shape (messages.Answered from client seq reply) spelled kind verdict = absurd spelled.0
 
--- no rule takes these
+pub ask_said : (m : Message) → IsPeer m → kind_of m ≡ kinds.Peer peer_kinds.Ask → body_of m ≡ peers.Ask (start_of (body_of m))
+ask_said (messages.Peer from to at (peers.Vote last_term last)) is e = absurd cc
+ask_said (messages.Peer from to at (peers.VoteReply granted)) is e = absurd cc
+ask_said (messages.Peer from to at (peers.Append prev prev_term commit entries)) is e = absurd cc
+ask_said (messages.Peer from to at (peers.Matched prev count mask)) is e = absurd cc
+ask_said (messages.Peer from to at (peers.Refused next)) is e = absurd cc
+ask_said (messages.Peer from to at (peers.Ask start)) is e = refl
+ask_said (messages.Peer from to at (peers.Answer start last slots)) is e = absurd cc
+ask_said (messages.Request to request) is e = absurd is
+ask_said (messages.Answered from client seq reply) is e = absurd is
 
-pub ask_dropped : (n : Node) (sender : ℕ) (m : Message) → IsPeer m → kind_of m ≡ kinds.Peer peer_kinds.Ask → act_of_peer n sender (body_of m) ≡ stays n
-ask_dropped n sender (messages.Peer from to at (peers.Vote last_term last)) is e = absurd cc
-ask_dropped n sender (messages.Peer from to at (peers.VoteReply granted)) is e = absurd cc
-ask_dropped n sender (messages.Peer from to at (peers.Append prev prev_term commit entries)) is e = absurd cc
-ask_dropped n sender (messages.Peer from to at (peers.Matched prev count mask)) is e = absurd cc
-ask_dropped n sender (messages.Peer from to at (peers.Refused next)) is e = absurd cc
-ask_dropped n sender (messages.Peer from to at (peers.Ask start)) is e = refl
-ask_dropped n sender (messages.Peer from to at (peers.Answer start last slots)) is e = absurd cc
-ask_dropped n sender (messages.Request to request) is e = absurd is
-ask_dropped n sender (messages.Answered from client seq reply) is e = absurd is
+-- a question for the log names an index
+pub start_least : (shape : Shape) (m : Message) → HasSpelling shape m → kind_of m ≡ kinds.Peer peer_kinds.Ask → 1 ≤ start_of (body_of m)
+start_least shape (messages.Peer from to at (peers.Ask start)) spelled kind =
+    (lies_within U64 1 last_place start (body_spelled {shape = shape} from to at (peers.Ask start) spelled).0).0
+start_least shape (messages.Peer from to at (peers.Vote last_term last)) spelled kind = absurd cc
+start_least shape (messages.Peer from to at (peers.VoteReply granted)) spelled kind = absurd cc
+start_least shape (messages.Peer from to at (peers.Append prev prev_term commit entries)) spelled kind = absurd cc
+start_least shape (messages.Peer from to at (peers.Matched prev count mask)) spelled kind = absurd cc
+start_least shape (messages.Peer from to at (peers.Refused next)) spelled kind = absurd cc
+start_least shape (messages.Peer from to at (peers.Answer start last slots)) spelled kind = absurd cc
+start_least shape (messages.Request to request) spelled kind = absurd spelled.0
+start_least shape (messages.Answered from client seq reply) spelled kind = absurd spelled.0
 
-pub answer_dropped : (n : Node) (sender : ℕ) (m : Message) → IsPeer m → kind_of m ≡ kinds.Peer peer_kinds.Answer → act_of_peer n sender (body_of m) ≡ stays n
-answer_dropped n sender (messages.Peer from to at (peers.Vote last_term last)) is e = absurd cc
-answer_dropped n sender (messages.Peer from to at (peers.VoteReply granted)) is e = absurd cc
-answer_dropped n sender (messages.Peer from to at (peers.Append prev prev_term commit entries)) is e = absurd cc
-answer_dropped n sender (messages.Peer from to at (peers.Matched prev count mask)) is e = absurd cc
-answer_dropped n sender (messages.Peer from to at (peers.Refused next)) is e = absurd cc
-answer_dropped n sender (messages.Peer from to at (peers.Ask start)) is e = absurd cc
-answer_dropped n sender (messages.Peer from to at (peers.Answer start last slots)) is e = refl
-answer_dropped n sender (messages.Request to request) is e = absurd is
-answer_dropped n sender (messages.Answered from client seq reply) is e = absurd is
+pub answer_said : (m : Message) → IsPeer m → kind_of m ≡ kinds.Peer peer_kinds.Answer → body_of m ≡ peers.Answer (start_of (body_of m)) (last_of (body_of m)) (entries_of (body_of m))
+answer_said (messages.Peer from to at (peers.Vote last_term last)) is e = absurd cc
+answer_said (messages.Peer from to at (peers.VoteReply granted)) is e = absurd cc
+answer_said (messages.Peer from to at (peers.Append prev prev_term commit entries)) is e = absurd cc
+answer_said (messages.Peer from to at (peers.Matched prev count mask)) is e = absurd cc
+answer_said (messages.Peer from to at (peers.Refused next)) is e = absurd cc
+answer_said (messages.Peer from to at (peers.Ask start)) is e = absurd cc
+answer_said (messages.Peer from to at (peers.Answer start last slots)) is e = refl
+answer_said (messages.Request to request) is e = absurd is
+answer_said (messages.Answered from client seq reply) is e = absurd is
 
 -- ---- in range
 

@@ -26,6 +26,7 @@ knows_node m heard list n is stands settled =
         of_hint = s.of_hint;
         of_heard = stands;
         settled = settled;
+        of_prep = s.of_prep;
         of_calls = s.of_calls;
       };
       of_store = is.of_store;

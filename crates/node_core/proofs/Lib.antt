@@ -1,10 +1,10 @@
 mod Acting
 mod Knowing
+mod Showing
 mod Serving
 mod Advancing
 mod Sending
 mod Currents
-mod Lacking
 mod Batches
 mod Ranging
 mod Choosing
@@ -14,4 +14,8 @@ mod Valuing
 mod Taking
 mod Hearing
 mod Told
+mod Deciding
+mod Winning
+mod Moving
+mod Preparing
 pub mod Turning

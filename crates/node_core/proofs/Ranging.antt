@@ -16,6 +16,7 @@ use Rattle.world_model.specs.Nodes.{Node, node_hearing}
 use Rattle.world_model.specs.Ranges.{IsOfNoLog, ItemInRange, KnowsInRange, NodeInRange}
 use Rattle.world_model.specs.Rules.Acts.{keeping, recording, stays}
 use Rattle.world_model.specs.Rules.Prepare.{act_of_beginning, leading, noop}
+use Rattle.world_model.specs.Rules.Say.{mode_of_leader}
 use Rattle.world_model.proofs.Ranges.Acts.{in_volatile}
 use Rattle.world_model.proofs.Ranges.Knowing.{any_logs, hears, knows_as, leader_hears}
 use Rattle.world_model.proofs.Ranges.Starts.{starts_within}
@@ -35,19 +36,19 @@ module _ {shape : Shape} {member : ℕ} {n : Node} (a : NodeInRange shape member
   -- of what says nothing of a log
   pub hears_silent : (item : Heard) → IsOfNoLog item → NodeInRange shape member (node_hearing item n)
   hears_silent item silent =
-      in_volatile a (node_hearing item n).volatile a.clients (hears n.volatile.role (length n.durable.log) n.volatile.first item n.volatile.heard silent a.knows)
+      in_volatile a (node_hearing item n).volatile a.clients (hears n.volatile.role (length n.durable.log) n.volatile.first item n.volatile.heard silent a.knows) a.pages
 
   -- of a leader
   pub leader_hears_in_range : (item : Heard) → ItemInRange (length n.durable.log) item → n.volatile.role ≡ Leader → NodeInRange shape member (node_hearing item n)
   leader_hears_in_range item ranged leads =
       in_volatile a (node_hearing item n).volatile a.clients
       (subst (λ (role : Role). KnowsInRange role (length n.durable.log) n.volatile.first (item ∷ n.volatile.heard)) (sym leads)
-      (leader_hears (length n.durable.log) n.volatile.first item n.volatile.heard ranged (knows_as a Leader leads)))
+      (leader_hears (length n.durable.log) n.volatile.first item n.volatile.heard ranged (knows_as a Leader leads))) a.pages
 
   leader_starts : n.volatile.role ≡ Leader → StartsInRange n
   leader_starts leads = λ receiver.
       let knows = knows_as a Leader leads in
-      starts_within receiver n.durable.commit n.durable.log n.volatile.heard n.volatile.first knows.2 (knows.0, knows.1)
+      starts_within (mode_of_leader n) receiver n.durable.commit n.durable.log n.volatile.heard n.volatile.first knows.2 (knows.0, knows.1)
 
   pub may_say : (m : Member) → IsNode m n → n.volatile.role ≡ Leader → MaySay m
   may_say m is leads = record { node = n; is = is; starts = leader_starts leads }
@@ -57,9 +58,9 @@ pub beginning_starts : (n : Node) → All IsOfNoLog n.volatile.heard → StartsI
 beginning_starts n none = λ receiver.
     let longer : length (n.durable.log ++ noop n.durable.term ∷ []) ≡ length n.durable.log + 1 = length-append n.durable.log (noop n.durable.term ∷ []) in
     cond_both (nat_lt (length n.durable.log) last_place) (recording (Add (noop n.durable.term)) (stays n)) (stays n) (λ act. StartsInRange (keeping (leading n) act).node)
-    (λ room receiver. starts_within receiver n.durable.commit (n.durable.log ++ noop n.durable.term ∷ []) n.volatile.heard (length n.durable.log + 1)
+    (λ room receiver. starts_within (mode_of_leader n) receiver n.durable.commit (n.durable.log ++ noop n.durable.term ∷ []) n.volatile.heard (length n.durable.log + 1)
     (any_logs (length (n.durable.log ++ noop n.durable.term ∷ [])) n.volatile.heard none) (omega arith, omega (arith, longer)))
-    (λ full receiver. starts_within receiver n.durable.commit n.durable.log n.volatile.heard (length n.durable.log + 1)
+    (λ full receiver. starts_within (mode_of_leader n) receiver n.durable.commit n.durable.log n.volatile.heard (length n.durable.log + 1)
     (any_logs (length n.durable.log) n.volatile.heard none) (omega arith, omega arith))
     receiver
 

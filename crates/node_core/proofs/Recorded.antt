@@ -15,7 +15,7 @@ use Rattle.node_core.proofs.Acting.{recorded_after, stays_acted}
 
 -- ---- what may be recorded
 
-can_front : (shape : Shape) (d : Durable) (records more : List Record) → CanApplyAll shape d (records ++ more) → CanApplyAll shape d records
+pub can_front : (shape : Shape) (d : Durable) (records more : List Record) → CanApplyAll shape d (records ++ more) → CanApplyAll shape d records
 can_front shape d [] more can = tt
 can_front shape d (r ∷ records) more can = (can.0, can_front shape (applied d r) records more can.1)
 
@@ -23,7 +23,7 @@ can_rest : (shape : Shape) (d : Durable) (records more : List Record) → CanApp
 can_rest shape d [] more can = can
 can_rest shape d (r ∷ records) more can = can_rest shape (applied d r) records more can.1
 
-spelled_front : (k : ℕ) (records more : List Record) → HaveSpellings k (records ++ more) → HaveSpellings k records
+pub spelled_front : (k : ℕ) (records more : List Record) → HaveSpellings k (records ++ more) → HaveSpellings k records
 spelled_front k [] more have = tt
 spelled_front k (r ∷ records) more have = (have.0, spelled_front k records more have.1)
 
@@ -50,7 +50,7 @@ may_rest records more before after may made = record {
 -- ---- what was recorded
 
 pub none_recorded : (act : Act) → Recorded [] act act
-none_recorded act = record { acts = λ n is. stays_acted act n is; kept = refl; shape = refl }
+none_recorded act = record { acts = λ n is. stays_acted act n is; kept = refl; shape = refl; role = refl }
 
 pub both_recorded :
     (records more : List Record) (before between after : Act) → Recorded records before between → Recorded more between after → Recorded (records ++ more) before after
@@ -58,6 +58,7 @@ both_recorded records more before between after first second = record {
   acts = λ n is. let one = first.acts n is in recorded_after n records more before between after one (second.acts _ one.node);
   kept = second.kept ∙ ap (λ d. durable.after d more) first.kept ∙ sym (after-append before.member.store.kept records more);
   shape = second.shape ∙ first.shape;
+  role = second.role ∙ first.role;
 }
 
 -- ---- places of lists

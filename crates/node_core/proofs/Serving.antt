@@ -1,20 +1,18 @@
 -- The map of a member as its log changes, and as it applies more of it.
-use Rattle.std.proofs.Common.{◌≡◌, ℕ, zero, suc, ◌+◌, ◌-◌, ◌<◌, ◌≤◌, nat_lt, max, List, [], ◌∷◌, ◌++◌, length, take, map, filter, reverse, false, Option, None, Some, refl, ap, sym, subst, ◌∙◌, arith, add-one, append-nil, append_assoc}
+use Rattle.std.proofs.Common.{◌≡◌, ℕ, zero, suc, ◌+◌, ◌-◌, ◌≤◌, List, [], ◌∷◌, ◌++◌, length, take, map, reverse, false, Option, None, Some, refl, ap, sym, subst, ◌∙◌, arith, add-one, append-nil, append_assoc}
 use Rattle.std.specs.Prelude.{option_map}
 use Rattle.std.specs.List.{range_with_len}
 use Rattle.std.specs.Option.{option_to_list}
 use Rattle.std.proofs.lemmas.List.{take-append-le, take-take}
 use Rattle.commit_rules.proofs.Rows.{row_more}
 use Rattle.craft_base.specs.Shape.{Shape}
-use Rattle.craft_base.specs.Knowledge.{Heard}
 use Rattle.craft_base.specs.declared.command.Entry.{Entry}
 use Rattle.craft_base.specs.declared.command.Head.{Head}
 use Rattle.entry_frames.specs.Durable.{CanApply, Durable, applied, complete_at}
 use Rattle.entry_frames.specs.Formats.{Fits}
 use Rattle.entry_frames.specs.Logs.{entry_at}
-use Rattle.entry_frames.specs.Records.{Record, Term, Add, Cut, Whole, Commit, record_fields, record_spellings}
+use Rattle.entry_frames.specs.Records.{Record, Term, Add, Cut, Whole, Commit, record_fields}
 use Rattle.full_append.proofs.Lists.{take_one_more}
-use Rattle.heard_book.specs.Kept as known
 use Rattle.kv_apply.specs.Commands.{answer, heads_of}
 use Rattle.kv_apply.specs.Services as services
 use Rattle.kv_apply.specs.Services.{count_of}
@@ -22,14 +20,15 @@ use Rattle.kv_apply.specs.declared.outcome.Outcome.{Outcome}
 use Rattle.kv_apply.proofs.Logs.{heads_with}
 use Rattle.world_model.specs.Nodes.{Node}
 use Rattle.world_model.specs.Rules.Acts.{recording, stays}
-use Rattle.world_model.specs.Rules.Applying.{act_of_applying, call_at, newly_committed, replies_among, replies_at, replies_for, reply_of, reply_to, waiting}
+use Rattle.world_model.specs.Rules.Applying.{call_at, newly_committed, replies_among, replies_at, replies_for, reply_of, reply_to}
 use Rattle.world_model.specs.Rules.Call.{applied_heads}
 use Rattle.world_model.specs.declared.call.Called.{Called}
 use Rattle.world_model.specs.declared.call.ClientReply.{ClientReply}
 use Rattle.world_model.proofs.Ranges.Applying.{heads_long}
 use Rattle.node_core.specs.declared.act.Act.{Act}
 use Rattle.node_core.specs.declared.member.Member.{Member}
-use Rattle.node_core.specs.Acting.{IsActed, IsMade, IsNode, is_commit}
+use Rattle.node_core.specs.Acting.{IsActed, IsMade, IsNode, is_commit, MayChange}
+use Rattle.node_core.proofs.Showing.{still_shown}
 use Rattle.node_core.specs.Serving.{IsServed, Serves, heads_up_to, reply_told}
 
 -- ---- what is committed of a log
@@ -62,8 +61,8 @@ commit_stays d (Commit index) none = absurd cc
 -- a record that was made is that of the rule, unless it moves the commit index
 pub recorded_once :
     (r : Record) (before after : Act) → CanApply before.member.store.shape before.member.store.kept r → Fits (record_fields before.member.store.shape.need) r → is_commit r ≡ false →
-    IsMade r before after → (n : Node) → IsNode before.member n → IsActed (recording r (stays n)) before after
-recorded_once r before after can fits none made n is =
+    MayChange before.member r → IsMade r before after → (n : Node) → IsNode before.member n → IsActed (recording r (stays n)) before after
+recorded_once r before after can fits none free made n is =
     let m = before.member in
     let s = is.stands in
     let now : Node = record n { durable = applied n.durable r } in
@@ -80,6 +79,7 @@ recorded_once r before after can fits none made n is =
         of_hint = s.of_hint;
         of_heard = s.of_heard;
         settled = subst (λ (k : ℕ). m.heard.window.settled ≤ k) (sym (commit_stays n.durable r none)) s.settled;
+        of_prep = still_shown m.prep n.shape n.me n.volatile.pages m.role n.durable r free s.of_prep;
         of_calls = s.of_calls;
       };
       of_store = made.shape ∙ is.of_store;

@@ -26,7 +26,8 @@ use Rattle.full_append.proofs.Carrying.{only_the_log}
 use Rattle.world_model.specs.Nodes.{Node}
 use Rattle.world_model.specs.Ranges.{HasSpelling}
 use Rattle.world_model.specs.Rules.Acts.{stays}
-use Rattle.world_model.specs.Rules.Append.{common, completion, completion_of, completions, is_same_head, taken_records}
+use Rattle.leader_prep.specs.Verdicts.{is_same_head}
+use Rattle.world_model.specs.Rules.Append.{common, completion, completion_of, completions, taken_records}
 use Rattle.world_model.specs.Rules.Applying.{act_of_applying, act_of_commit}
 use Rattle.world_model.proofs.Frames.{body_spelled}
 use Rattle.world_model.proofs.Ranges.Append.{IsStretch, stretch_of}

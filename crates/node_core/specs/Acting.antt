@@ -1,10 +1,12 @@
 -- What a member does in the middle of a turn.
-use Rattle.std.specs.Prelude.{◌≡◌, ℕ, ◌+◌, ◌≤◌, List, [], ◌∷◌, ◌++◌, length, Bool, true, false}
+use Rattle.std.specs.Prelude.{◌≡◌, ℕ, ◌+◌, ◌≤◌, List, [], ◌∷◌, ◌++◌, length, Bool, true, false, ◌&&◌}
 use Rattle.entry_frames.specs.Durable.{CanApplyAll}
 use Rattle.entry_frames.specs.Durable as durable
 use Rattle.entry_frames.specs.Bodies.{HaveSpellings}
 use Rattle.entry_frames.specs.MessageParts.{term_of}
-use Rattle.entry_frames.specs.Records.{Record, Cut, Whole, Commit, record_spellings}
+use Rattle.entry_frames.specs.Records.{Record, Term, Cut, Whole, Commit, record_spellings}
+use Rattle.entry_frames.specs.declared.role.Role.{Role}
+use Rattle.entry_frames.specs.declared.role.Role.TheVariants.{Preparing}
 use Rattle.kv_apply.specs.Services as services
 use Rattle.peer_frames.specs.FrameViews.{ViewedFrame}
 use Rattle.world_model.specs.Nodes.{Node}
@@ -29,6 +31,7 @@ kept_of m =
       quiet = m.quiet;
       hint = m.hint;
       heard = m.heard;
+      prep = m.prep;
       calls = m.calls.items;
     }
 
@@ -65,6 +68,14 @@ pub record Becomes (change : Node → Node) (old new : Member) : Type 0 where
   pub store : new.store ≡ old.store
   pub node : (n : Node) → IsNode old n → IsNode new (change n)
 
+abbrev pub is_preparing : Role → Bool
+is_preparing Preparing = true
+is_preparing _ = false
+
+-- it doesn't prepare: what it was shown is of no log
+abbrev pub IsFree : Member → Type 0
+IsFree m = is_preparing m.role ≡ false
+
 -- these records have spellings, and can be applied in order
 pub record MayRecord (m : Member) (records : List Record) : Type 0 where
   pub apply : CanApplyAll m.store.shape m.store.kept records
@@ -76,6 +87,15 @@ pub record MayRecord (m : Member) (records : List Record) : Type 0 where
 abbrev pub is_commit : Record → Bool
 is_commit (Commit index) = true
 is_commit _ = false
+
+-- whether a record changes the log, or up to where it is committed
+abbrev pub is_of_log : Record → Bool
+is_of_log (Term term vote) = false
+is_of_log _ = true
+
+-- who prepares decides by its log: only another changes it
+abbrev pub MayChange : Member → Record → Type 0
+MayChange m r = (is_of_log r && is_preparing m.role) ≡ false
 
 -- from which indexes on records remove entries
 abbrev pub cut_indexes : List Record → List ℕ
@@ -115,8 +135,9 @@ pub record IsActed (act : acts.Act) (before after : Act) : Type 0 where
 abbrev pub Acts : (Node → acts.Act) → Act → Act → Type 0
 Acts rule before after = (n : Node) → IsNode before.member n → IsActed (rule n) before after
 
--- these records were made and carried out, in order
+-- these records were made and carried out, in order, in the same role
 pub record Recorded (records : List Record) (before after : Act) : Type 0 where
   pub acts : Acts (λ n. acts.recording_all records (acts.stays n)) before after
   pub kept : after.member.store.kept ≡ durable.after before.member.store.kept records
   pub shape : after.member.store.shape ≡ before.member.store.shape
+  pub role : after.member.role ≡ before.member.role

@@ -1,13 +1,18 @@
 -- When a running member stands for a node of the definitions.
-use Rattle.std.specs.Prelude.{◌≡◌, ℕ, ◌≤◌, List, Option}
+use Rattle.std.specs.Prelude.{◌≡◌, ℕ, ◌≤◌, List, Option, None, Some}
 use Rattle.craft_base.specs.Shape.{Shape}
 use Rattle.entry_frames.specs.Durable.{Durable}
 use Rattle.entry_frames.specs.declared.role.Role.{Role}
+use Rattle.entry_frames.specs.declared.role.Role.TheVariants.{Follower, Candidate, Preparing, Leader}
 use Rattle.heard_book.specs.Kept as known
+use Rattle.leader_prep.specs.Pages.{Page}
+use Rattle.leader_prep.specs.Standing as preparation
+use Rattle.leader_prep.specs.declared.prep.Prep.{Prep}
 use Rattle.world_model.specs.Nodes.{Node}
+use Rattle.world_model.specs.Rules.Prepare.{cursor_at}
 use Rattle.world_model.specs.declared.call.Called.{Called}
 
--- what is kept of a member: all that a node has, and in place of all that it heard what it knows by it
+-- what is kept of a member: all that a node has, and in place of all that it heard and was shown what it knows by it
 pub record Kept : Type 0 where
   pub shape : Shape
   pub me : ℕ
@@ -16,10 +21,19 @@ pub record Kept : Type 0 where
   pub quiet : ℕ
   pub hint : Option ℕ
   pub heard : known.Kept
+  pub prep : Option Prep
   pub calls : List Called
 
+-- who prepares has a preparation that stands for all that it was shown, and has that cursor
+abbrev pub IsShown : Role → Option Prep → Shape → (me : ℕ) → List Page → (cursor : Option ℕ) → Type 0
+IsShown Preparing (Some prep) shape me pages cursor = preparation.Stands prep shape me pages cursor
+IsShown Preparing None shape me pages cursor = ⊥
+IsShown Follower prep shape me pages cursor = Unit {0}
+IsShown Candidate prep shape me pages cursor = Unit {0}
+IsShown Leader prep shape me pages cursor = Unit {0}
+
 -- the member is that node, as far as it keeps it: what it knows stands for what the node heard, and tells who holds which entry whole
--- above the commit index at least
+-- above the commit index at least; and what it was shown, for the node's pages
 pub record Stands (core : Kept) (n : Node) : Type 0 where
   pub of_shape : core.shape ≡ n.shape
   pub of_me : core.me ≡ n.me
@@ -29,4 +43,5 @@ pub record Stands (core : Kept) (n : Node) : Type 0 where
   pub of_hint : core.hint ≡ n.volatile.hint
   pub of_heard : known.Stands core.heard n.shape n.volatile.heard n.volatile.first
   pub settled : core.heard.window.settled ≤ n.durable.commit
+  pub of_prep : IsShown core.role core.prep n.shape n.me n.volatile.pages (cursor_at n)
   pub of_calls : core.calls ≡ n.volatile.calls

@@ -8,6 +8,7 @@ use craft_base::{MemberId, OutOfMemory, Shape};
 use entry_frames::RecordView;
 use heard_book::Heard;
 use kv_apply::Service;
+use leader_prep::Prep;
 use log_store::LogStore;
 use peer_frames::Role;
 use std::alloc::Global;
@@ -28,6 +29,8 @@ pub(crate) struct Member {
     pub hint: Option<MemberId>,
     /// What it knows in this term of the others.
     pub heard: Heard,
+    /// What it has been shown, while it prepares to lead.
+    pub prep: Option<Prep>,
     /// The map after what is committed of its log.
     pub service: Service,
     /// The requests that it added to its log as a leader and hasn't answered yet.
@@ -52,6 +55,7 @@ impl Member {
             quiet: self.quiet,
             hint: self.hint,
             heard: self.heard,
+            prep: self.prep,
             service: self.service,
             calls: self.calls,
         })

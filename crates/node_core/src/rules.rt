@@ -1,6 +1,8 @@
 //! The rules of a turn, one file a rule.
+mod answer;
 mod append;
 mod applying;
+mod ask;
 mod call;
 mod matched;
 mod prepare;

@@ -59,6 +59,7 @@ impl Core {
                 quiet: 0,
                 hint: None,
                 heard,
+                prep: None,
                 service,
                 calls: Vec::new(alloc),
             },

@@ -5,6 +5,8 @@ ghost use Rattle.node_core.specs.Turns.{IsFor};
 mod asking;
 mod calls;
 mod limits;
+mod preparing;
+mod showing;
 mod text;
 mod values;
 
@@ -95,6 +97,14 @@ const FIRST_APPEND: &str =
 /// The same fields, without an entry.
 const SECOND_APPEND: &str =
     "4352010101 03 00 01 0000000000000001 0000000000000001 0000000000000001 0000000000000001 00";
+
+/// By hand, behind a head of F = 1, k = 2 and the kind, the sender and the receiver: term, prev, its term, commit, count, an empty
+/// entry, one with a fragment of two bytes, and one with its value.
+const MIXED: &str =
+    "4352010102 03 00 01 0000000000000001 0000000000000000 0000000000000000 0000000000000000 03
+    01 00 0000000000000001 0000000000000000 0000000000000000 00
+    02 01 0000000000000001 0000000000000007 0000000000000001 01 61 00000002 1d
+    01 01 0000000000000001 0000000000000007 0000000000000002 01 61 00000002 0080";
 
 /// The group of a commit index of 1.
 const COMMITTED: &str = "0000000000000009 05 0000000000000001 00";

@@ -106,7 +106,8 @@ impl Act {
             PeerKind::VoteReply => self.count_reply(view.from(), view.granted()),
             PeerKind::Append => self.take_entries(view),
             PeerKind::AppendReply => self.take_reply(view),
-            PeerKind::Ask | PeerKind::Answer => Ok(self),
+            PeerKind::Ask => self.take_question(view.from(), view.start()),
+            PeerKind::Answer => self.take_answer(view),
         }
     }
 

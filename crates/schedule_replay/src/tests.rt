@@ -91,10 +91,10 @@ send 5 0 2 append 1 0 0 0 w
 send 6 1 0 matched 1 0 1 01
 8 done
 commit 0 1
-send 7 0 1 append 1 1 1 1 w
+send 7 0 1 append 1 1 1 1 p
 9 done
 commit 1 1
-send 8 1 0 matched 1 1 1 01
+send 8 1 0 matched 1 1 1 00
 10 done
 commit 0 2
 reply 0 7 1 done 2

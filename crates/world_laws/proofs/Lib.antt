@@ -1,2 +1,4 @@
+pub mod Examples
+pub mod Preparations
 pub mod Replies
 pub mod Shapes

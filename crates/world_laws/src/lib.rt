@@ -1,11 +1,14 @@
 //! What the whole cluster promises, whatever its events: one list of commands is committed, for all members and for ever; any F+1
 //! members rebuild it; no entry is removed that a leader of the remover's term or of a lower one commits; no term has two leaders; and
-//! clients are answered as by one map that took this list. Nothing here runs: `law_safe`, `law_rebuild` and `law_replies` state it as
-//! their contracts, for every shape and every list of events in range. `specs/Laws.antt` has the parts; `docs/proofs/BRIDGE.md` tells
+//! clients are answered as by one map that took this list. Nothing here runs: `law_safe`, `law_rebuild`, `law_replies` and
+//! `law_prepared` state it as their contracts, for every shape and every list of events in range. `specs/Laws.antt` and
+//! `specs/Preparations.antt` have the parts, `specs/Examples.antt` runs of which they speak; `docs/proofs/BRIDGE.md` tells
 //! the argument.
 #![tactic(auto)]
 
+ghost use Rattle.world_model.specs.Preparing.{EveryPreparingWaits};
 ghost use Rattle.world_laws.specs.Laws.{AllListed, AnyRebuild, OldNumbers, OneLeaderATerm, OneList, OneMap, RemovesUncommitted, StaysCommitted};
+ghost use Rattle.world_laws.specs.Preparations.{EachAnswerCovers, EnoughAnswersMove, MovesAreParts};
 
 /// Every run is safe, whichever members go down, stop in a turn and start anew, and whatever the network loses, repeats or reorders.
 pub fn law_safe()
@@ -35,4 +38,18 @@ pub fn law_replies()
     ensures one_map { OneMap }
     // where a number is old, a command of the client with a greater one is among them
     ensures old { OldNumbers }
+{}
+
+/// A preparation ends once enough members answer: whoever prepares to lead has an index to decide next, its cursor, which too few members
+/// cover, and the answers of F others to its question for that index make it go on to a greater one, or lead. After CRaft, newly elected
+/// leader.
+pub fn law_prepared()
+    // after whatever events, fewer than F+1 members cover the cursor of a member that prepares
+    ensures waits { EveryPreparingWaits }
+    // an answer that a member sends, asked from an index on, shows what it holds there
+    ensures shown { EachAnswerCovers }
+    // where F others have shown what they hold at the cursor, the member leads in that term, or its cursor is greater
+    ensures moves { EnoughAnswersMove }
+    // through a preparation the cursor moves at most as often as there were parts above the commit index
+    ensures parts { MovesAreParts }
 {}

@@ -2,6 +2,7 @@ mod Examples
 mod OutputExamples
 mod CommitExamples
 mod ReplicationExamples
+mod CodedExamples
 mod ClientExamples
 pub mod Frames
 pub mod Positions
@@ -10,6 +11,8 @@ pub mod Stops
 pub mod Recorded
 pub mod Applying
 pub mod Ranges
+pub mod Members
+pub mod Preparing
 pub mod Inputs
 pub mod Numerals
 pub mod Runs

@@ -14,6 +14,7 @@ pub mod Say
 pub mod Terms
 pub mod Tick
 pub mod Vote
+pub mod Deciding
 pub mod Prepare
 pub mod VoteReply
 pub mod Matched
@@ -23,5 +24,7 @@ pub mod Completions
 pub mod Taking
 pub mod Masks
 pub mod Append
+pub mod Ask
+pub mod Answer
 pub mod Worlds
 pub mod Turns

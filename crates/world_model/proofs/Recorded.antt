@@ -1,8 +1,8 @@
 -- What outlives a crash is what the records of a turn leave, whatever the rule.
-use Rattle.std.proofs.Common.{◌≡◌, ℕ, ◌+◌, ◌++◌, length, min, nat_lt, Option, None, Some, Bool, List, [], ◌∷◌, refl, ap, ◌∙◌}
+use Rattle.std.proofs.Common.{◌≡◌, ℕ, ◌+◌, ◌++◌, ◌==◌, length, min, nat_lt, Option, None, Some, Bool, List, [], ◌∷◌, refl, ap, ◌∙◌}
 use Rattle.std.proofs.lemmas.Bool.{cond_both}
 use Rattle.entry_frames.specs.Durable.{Durable, applied, after}
-use Rattle.craft_base.specs.Knowledge.{Matched}
+use Rattle.craft_base.specs.Knowledge.{Beat, Matched}
 use Rattle.craft_base.specs.declared.command.Entry.{Entry}
 use Rattle.entry_frames.specs.Limits.{last_place}
 use Rattle.entry_frames.specs.Records.{Record, Add}
@@ -15,6 +15,9 @@ use Rattle.entry_frames.specs.declared.role.Role.TheVariants.{Follower, Candidat
 use Rattle.world_model.specs.Nodes.{Node, node_hearing}
 use Rattle.world_model.specs.Rules.Acts.{Act, stays, recording, followed_by, IsRecorded}
 use Rattle.world_model.specs.Rules.Append.{act_of_append_as, act_of_entries, act_of_heard_append, act_of_match, act_of_refusal, act_of_suited, act_of_taking, difference, following, has_before, is_clash}
+use Rattle.leader_prep.specs.Pages.{Page}
+use Rattle.world_model.specs.Rules.Answer.{act_of_answer_as, answer_heard, node_seeing}
+use Rattle.world_model.specs.Rules.Ask.{act_of_ask_as}
 use Rattle.world_model.specs.Rules.Applying.{act_of_applying, act_of_commit}
 use Rattle.kv_apply.specs.Commands.{kept_of}
 use Rattle.kv_apply.specs.declared.outcome.Kept.{Kept}
@@ -23,9 +26,9 @@ use Rattle.craft_base.specs.declared.command.Reply.TheVariants as replies
 use Rattle.craft_base.specs.declared.command.Request.{Request}
 use Rattle.world_model.specs.Rules.Call.{act_of_asking, act_of_call_as, act_of_new_request, act_of_reply, act_of_request, applied_heads, is_busy, is_full}
 use Rattle.world_model.specs.Rules.Matched.{act_of_matched_as, act_of_next, act_of_progress, act_of_refused_as, commit_of_leader, log_heard}
-use Rattle.world_model.specs.Rules.Prepare.{act_of_leading, act_of_noop, noop}
+use Rattle.world_model.specs.Rules.Prepare.{act_of_asking_on, act_of_deciding, act_of_first, act_of_later, act_of_leading, act_of_noop, act_of_preparing, act_of_winning, cursor_at, noop, preparing}
 use Rattle.world_model.specs.Rules.Terms.{act_of_higher_term, act_of_term, act_of_lower_term}
-use Rattle.world_model.specs.Rules.Tick.{act_of_election, act_of_tick_as, act_of_waiting, is_due, waiting_node}
+use Rattle.world_model.specs.Rules.Tick.{act_of_asking_again, act_of_election, act_of_tick_as, act_of_waiting, is_due, waiting_node}
 use Rattle.world_model.specs.Rules.Vote.{act_of_grant, act_of_vote_from, act_of_vote_refusal, act_of_vote_request, is_grantor}
 use Rattle.world_model.specs.Rules.VoteReply.{act_of_count, act_of_vote_reply_as, has_won, vote_heard}
 use Rattle.world_model.specs.Turn.{EveryTurnIsRecorded, Tick, Frame, Call, act_of_message, act_of_peer}
@@ -48,10 +51,14 @@ waiting_recorded : (n : Node) (word : ℕ) → IsRecorded n (act_of_waiting word
 waiting_recorded n word =
     cond_both (is_due n.volatile.quiet word n.durable.term) (act_of_election n) (stays n) (IsRecorded n) (λ due. refl) (λ early. refl)
 
+asking_again_recorded : (cursor : Option ℕ) (n : Node) → IsRecorded n (act_of_asking_again cursor n)
+asking_again_recorded None n = refl
+asking_again_recorded (Some cursor) n = refl
+
 tick_as_recorded : (n : Node) (word : ℕ) (role : Role) → IsRecorded n (act_of_tick_as role word n)
 tick_as_recorded n word Follower = waiting_recorded (waiting_node n) word
 tick_as_recorded n word Candidate = waiting_recorded (waiting_node n) word
-tick_as_recorded n word Preparing = refl
+tick_as_recorded n word Preparing = asking_again_recorded (cursor_at n) (node_hearing Beat n)
 tick_as_recorded n word Leader = refl
 
 vote_from_recorded : (n : Node) (candidate : ℕ) (vote : Option ℕ) → IsRecorded n (act_of_vote_from vote candidate n)
@@ -101,6 +108,12 @@ append_as_recorded Candidate n leader prev prev_term commit entries =
 append_as_recorded Preparing n leader prev prev_term commit entries = refl
 append_as_recorded Leader n leader prev prev_term commit entries = refl
 
+ask_as_recorded : (role : Role) (n : Node) (asker start : ℕ) → IsRecorded n (act_of_ask_as role n asker start)
+ask_as_recorded Follower n asker start = refl
+ask_as_recorded Candidate n asker start = refl
+ask_as_recorded Preparing n asker start = refl
+ask_as_recorded Leader n asker start = refl
+
 progress_recorded : (member : ℕ) (n : Node) → IsRecorded n (act_of_progress member n)
 progress_recorded member n =
     followed_recorded n (act_of_commit (commit_of_leader n) n) (act_of_next member) (commit_recorded (commit_of_leader n) n) refl
@@ -117,8 +130,35 @@ refused_as_recorded Follower n sender next = refl
 refused_as_recorded Candidate n sender next = refl
 refused_as_recorded Preparing n sender next = refl
 
+first_recorded : (left : Option ℕ) (n : Node) → IsRecorded n (act_of_first left n)
+first_recorded None n = leading_recorded n
+first_recorded (Some cursor) n = refl
+
+next_recorded : (before left : Option ℕ) (n : Node) → IsRecorded n (act_of_later before left n)
+next_recorded before None n = leading_recorded n
+next_recorded None (Some cursor) n = refl
+next_recorded (Some before) (Some cursor) n =
+    cond_both (before == cursor) (stays n) (act_of_asking_on cursor n) (IsRecorded n) (λ same. refl) (λ moved. refl)
+
+winning_recorded : (n : Node) → IsRecorded n (act_of_winning n)
+winning_recorded n =
+    let now = record n { volatile = preparing n } in
+    followed_recorded now (act_of_deciding now) (λ decided. act_of_first (cursor_at decided) decided) refl
+    (first_recorded (cursor_at (act_of_deciding now).node) (act_of_deciding now).node)
+
+preparing_recorded : (n : Node) → IsRecorded n (act_of_preparing n)
+preparing_recorded n =
+    followed_recorded n (act_of_deciding n) (λ decided. act_of_later (cursor_at n) (cursor_at decided) decided) refl
+    (next_recorded (cursor_at n) (cursor_at (act_of_deciding n).node) (act_of_deciding n).node)
+
+answer_as_recorded : (role : Role) (n : Node) (page : Page) → IsRecorded n (act_of_answer_as role n page)
+answer_as_recorded Follower n page = refl
+answer_as_recorded Candidate n page = refl
+answer_as_recorded Preparing n page = preparing_recorded (node_seeing page (node_hearing (answer_heard n page.sender) n))
+answer_as_recorded Leader n page = refl
+
 count_recorded : (n : Node) → IsRecorded n (act_of_count n)
-count_recorded n = cond_both (has_won n) (act_of_leading n) (stays n) (IsRecorded n) (λ won. leading_recorded n) (λ waits. refl)
+count_recorded n = cond_both (has_won n) (act_of_winning n) (stays n) (IsRecorded n) (λ won. winning_recorded n) (λ waits. refl)
 
 vote_reply_as_recorded : (n : Node) (sender : ℕ) (granted : Bool) (role : Role) → IsRecorded n (act_of_vote_reply_as role n sender granted)
 vote_reply_as_recorded n sender granted Follower = refl
@@ -132,8 +172,9 @@ peer_recorded n sender (peers.VoteReply granted) = vote_reply_as_recorded n send
 peer_recorded n sender (peers.Append prev prev_term commit entries) = append_as_recorded n.volatile.role n sender prev prev_term commit entries
 peer_recorded n sender (peers.Matched prev count mask) = matched_as_recorded n.volatile.role n sender prev count mask
 peer_recorded n sender (peers.Refused next) = refused_as_recorded n.volatile.role n sender next
-peer_recorded n sender (peers.Ask start) = refl
-peer_recorded n sender (peers.Answer start last slots) = refl
+peer_recorded n sender (peers.Ask start) = ask_as_recorded n.volatile.role n sender start
+peer_recorded n sender (peers.Answer start last slots) =
+    answer_as_recorded n.volatile.role n (record { sender = sender; start = start; last = last; slots = slots })
 
 message_recorded : (m : Message) (n : Node) → IsRecorded n (act_of_message m n)
 message_recorded (messages.Peer sender receiver term body) n =

@@ -1,6 +1,6 @@
 -- What a leader sends and commits, and what a follower makes of it, at logs worked out by hand.
 use Rattle.std.proofs.Common.{◌≡◌, ℕ, List, [], ◌∷◌, refl, Some, None, Bool, true, false}
-use Rattle.craft_base.specs.Knowledge.{Heard, From, Matched}
+use Rattle.craft_base.specs.Knowledge.{Heard, Beat, From, Matched}
 use Rattle.craft_base.specs.Shape.{Shape}
 use Rattle.craft_base.specs.declared.command.Entry.{Entry}
 use Rattle.craft_base.specs.declared.command.Form.{Form}
@@ -28,7 +28,7 @@ member role log heard =
       shape = three;
       me = 0;
       durable = record { term = 4; vote = Some 0; log = log; commit = 1 };
-      volatile = record { role = role; quiet = 0; hint = None; heard = heard; first = 4; calls = [] };
+      volatile = record { role = role; quiet = 0; hint = None; heard = heard; first = 4; pages = []; calls = [] };
     }
 
 abbrev log : List Entry
@@ -105,16 +105,21 @@ wins = refl
 
 -- ---- a leader
 
--- it sends from the first entry on that a member isn't known to hold: member 1 holds the second and lacks the third, of member 2
+-- where too few members were heard of late it sends from the first entry on that a member isn't known to hold: member 1 holds the second and lacks the third, of member 2
 -- nothing is known
-beat_told : (act_of (Tick 0) (member Leader log (From 1 3 (Matched 1 1 1) ∷ []))).sends
+beat_told : (act_of (Tick 0) (member Leader log (Beat ∷ Beat ∷ From 1 3 (Matched 1 1 1) ∷ []))).sends
     ≡ to 1 (peers.Append 2 2 1 (noop 2 ∷ [])) ∷ to 2 (peers.Append 1 1 1 (noop 2 ∷ noop 2 ∷ [])) ∷ []
 beat_told = refl
 
 -- member 1 has all of the log, but of the second entry a part: it is sent that again
-part_told : (act_of (Tick 0) (member Leader log (From 1 3 (Matched 1 2 2) ∷ From 2 3 (Matched 1 2 3) ∷ []))).sends
+part_told : (act_of (Tick 0) (member Leader log (Beat ∷ Beat ∷ From 1 3 (Matched 1 2 2) ∷ From 2 3 (Matched 1 2 3) ∷ []))).sends
     ≡ to 1 (peers.Append 1 1 1 (noop 2 ∷ noop 2 ∷ [])) ∷ to 2 (peers.Append 3 2 1 []) ∷ []
 part_told = refl
+
+-- where enough were heard of late each is sent from behind what it matched; who wasn't heard, from where the leader began
+coded_told : (act_of (Tick 0) (member Leader log (From 1 3 (Matched 1 1 2) ∷ []))).sends
+    ≡ to 1 (peers.Append 2 2 1 (noop 2 ∷ [])) ∷ to 2 (peers.Append 3 2 1 []) ∷ []
+coded_told = refl
 
 -- a member that refuses is sent from where it says
 refused_told : (hears (peers.Refused 1) (member Leader log [])).sends ≡ to 1 (peers.Append 0 0 1 log) ∷ []

@@ -12,3 +12,4 @@ pub mod Schedule
 pub mod Spelling
 pub mod Safety
 pub mod Ranges
+pub mod Preparing

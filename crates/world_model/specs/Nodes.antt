@@ -5,6 +5,7 @@ use Rattle.craft_base.specs.Shape.{Shape}
 use Rattle.entry_frames.specs.Durable.{Durable}
 use Rattle.entry_frames.specs.declared.role.Role.{Role}
 use Rattle.entry_frames.specs.declared.role.Role.TheVariants.{Follower}
+use Rattle.leader_prep.specs.Pages.{Page}
 use Rattle.world_model.specs.declared.call.Called.{Called}
 
 -- what a crash loses
@@ -18,6 +19,8 @@ pub record Volatile : Type 0 where
   pub heard : List Heard
   -- the index from which on a leader sends to a member of whose log it knows nothing
   pub first : ℕ
+  -- what others have shown of their logs while it prepares to lead, the latest first
+  pub pages : List Page
   -- the requests that it added to its log as a leader and hasn't answered yet
   pub calls : List Called
 
@@ -30,7 +33,7 @@ pub record Node : Type 0 where
 
 -- what a crash has just lost: nothing was heard, and nobody is known to lead
 abbrev pub fresh : Volatile
-fresh = record { role = Follower; quiet = 0; hint = None; heard = []; first = 0; calls = [] }
+fresh = record { role = Follower; quiet = 0; hint = None; heard = []; first = 0; pages = []; calls = [] }
 
 abbrev pub node_with : Shape → ℕ → Durable → Volatile → Node
 node_with shape me durable volatile = record { shape = shape; me = me; durable = durable; volatile = volatile }

@@ -1,6 +1,7 @@
 -- How far a leader may commit, by what it knows of who holds its entries.
 use Rattle.std.specs.Prelude.{ℕ, ◌+◌, ◌-◌, max, List, filter, length, Bool, true, false, ◌&&◌, ◌||◌, ◌==◌, if◌then◌else◌, nat_le, Option, None, Some}
 use Rattle.std.specs.List.{count_by, fold, list_all, range_with_len}
+use Rattle.coded_append.specs.Starts.{open_indexes}
 use Rattle.craft_base.specs.Knowledge.{Heard, held_form, members}
 use Rattle.craft_base.specs.Shape.{Shape, coded_quorum_of, majority_of}
 use Rattle.craft_base.specs.declared.command.Entry.{Entry}
@@ -44,10 +45,6 @@ abbrev pub is_enough : Shape → ℕ → List Entry → List Heard → ℕ → B
 is_enough shape me log heard index =
     nat_le (majority_of shape) (holders is_held_whole shape me log heard index)
     || nat_le (coded_quorum_of shape) (holders is_held shape me log heard index)
-
--- the indexes above a commit index, up to the log's last
-abbrev pub open_indexes : ℕ → List Entry → List ℕ
-open_indexes commit log = range_with_len (commit + 1) (length log - commit)
 
 -- whether the log may be committed up to an index by the leader of that term: the entry there is of this term, and enough members
 -- hold it and each entry before it that isn't committed

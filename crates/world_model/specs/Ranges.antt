@@ -3,6 +3,7 @@ use Rattle.std.specs.Prelude.{◌≡◌, ℕ, ◌+◌, ◌<◌, ◌≤◌, List,
 use Rattle.craft_base.specs.Shape.{Shape, IsShape, members_of}
 use Rattle.craft_base.specs.Knowledge.{Heard, Told, Answered, Beat, From, Matched, Refused, Voted}
 use Rattle.entry_frames.specs.Durable.{CanApplyAll}
+use Rattle.entry_frames.specs.Entries.{entry_fields}
 use Rattle.entry_frames.specs.Formats.{Fits}
 use Rattle.entry_frames.specs.Limits.{greatest}
 use Rattle.entry_frames.specs.MessageFields.{frame_fields, request_fields}
@@ -12,6 +13,7 @@ use Rattle.entry_frames.specs.declared.role.Role.{Role}
 use Rattle.entry_frames.specs.declared.role.Role.TheVariants.{Leader}
 use Rattle.entry_frames.specs.declared.message.Message.{Message}
 use Rattle.entry_frames.specs.declared.message.Message.TheVariants as messages
+use Rattle.leader_prep.specs.Pages.{Page}
 use Rattle.world_model.specs.Nodes.{Node}
 use Rattle.world_model.specs.Safety.{IsRun}
 use Rattle.world_model.specs.Turn.{Event, Tick, Frame, Call, act_of}
@@ -39,10 +41,11 @@ abbrev pub ItemInRange : (last : ℕ) → Heard → Type 0
 ItemInRange last Beat = Unit {0}
 ItemInRange last (From sender at told) = ToldInRange last at told
 
--- it says nothing of a log
+-- it says nothing of how far a log matches
 abbrev pub IsOfNoLog : Heard → Type 0
 IsOfNoLog Beat = Unit {0}
 IsOfNoLog (From sender at (Voted granted)) = Unit {0}
+IsOfNoLog (From sender at Answered) = Unit {0}
 IsOfNoLog (From sender at told) = ⊥
 
 -- what a member knows of the others: a leader's items are in range, it begins at most behind its log, and its log isn't empty, so
@@ -68,6 +71,10 @@ CallInRange c = IsClientNumber c.client × IsClientNumber c.seq
 abbrev pub ClientsInRange : Shape → Option ℕ → List Called → Type 0
 ClientsInRange shape hint calls = HintInRange shape hint × All CallInRange calls
 
+-- what a member showed of its log can be written, entry by entry
+abbrev pub PageInRange : (k : ℕ) → Page → Type 0
+PageInRange k page = All (Fits (entry_fields k)) page.slots
+
 -- the node at a position of the world is that member of the cluster, and its numbers are in range
 pub record NodeInRange (shape : Shape) (member : ℕ) (n : Node) : Type 0 where
   pub of_shape : n.shape ≡ shape
@@ -76,6 +83,7 @@ pub record NodeInRange (shape : Shape) (member : ℕ) (n : Node) : Type 0 where
   pub durable : DurableInRange shape n.durable
   pub clients : ClientsInRange shape n.volatile.hint n.volatile.calls
   pub knows : KnowsInRange n.volatile.role (length n.durable.log) n.volatile.first n.volatile.heard
+  pub pages : All (PageInRange shape.need) n.volatile.pages
 
 -- the message goes from one member to another, and has a spelling as a frame of the cluster
 abbrev pub HasSpelling : Shape → Message → Type 0

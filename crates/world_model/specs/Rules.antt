@@ -10,3 +10,5 @@ pub mod Applying
 pub mod Call
 pub mod Append
 pub mod Matched
+pub mod Ask
+pub mod Answer

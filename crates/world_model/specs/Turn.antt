@@ -12,7 +12,9 @@ use Rattle.entry_frames.specs.declared.role.Role.{Role}
 use Rattle.entry_frames.specs.declared.role.Role.TheVariants.{Follower, Candidate, Preparing, Leader}
 use Rattle.world_model.specs.Nodes.{Node}
 use Rattle.world_model.specs.Rules.Acts.{Act, stays, followed_by, IsRecorded}
+use Rattle.world_model.specs.Rules.Answer.{act_of_answer}
 use Rattle.world_model.specs.Rules.Append.{act_of_append}
+use Rattle.world_model.specs.Rules.Ask.{act_of_ask}
 use Rattle.world_model.specs.Rules.Call.{act_of_call}
 use Rattle.world_model.specs.Rules.Matched.{act_of_matched, act_of_refused}
 use Rattle.world_model.specs.Rules.Terms.{act_of_term, act_of_lower_term}
@@ -39,9 +41,8 @@ act_of_peer n sender (peers.VoteReply granted) = act_of_vote_reply n sender gran
 act_of_peer n sender (peers.Append prev prev_term commit entries) = act_of_append n sender prev prev_term commit entries
 act_of_peer n sender (peers.Matched prev count mask) = act_of_matched n sender prev count mask
 act_of_peer n sender (peers.Refused next) = act_of_refused n sender next
--- no rule takes these yet
-act_of_peer n sender (peers.Ask start) = stays n
-act_of_peer n sender (peers.Answer start last slots) = stays n
+act_of_peer n sender (peers.Ask start) = act_of_ask n sender start
+act_of_peer n sender (peers.Answer start last slots) = act_of_answer n sender start last slots
 
 -- a message of another member, by its term and then by what it says; of others nothing comes
 abbrev pub act_of_message : Message → Node → Act

@@ -1,5 +1,6 @@
 -- A leader adds a whole entry of its term at the end of its log: that is a proposal, and the entry stands for its command in the book.
 use Rattle.std.proofs.Common.{◌≡◌, ℕ, ◌+◌, None, Some, List, [], ◌∷◌, ◌++◌, length, refl, sym, ap, subst, arith, length-append}
+use Rattle.std.specs.List.{All}
 use Rattle.std.proofs.lemmas.List.Elements.{All-cons, All-nil, All-same}
 use Rattle.craft_base.specs.Shape.{Shape}
 use Rattle.craft_base.specs.declared.command.Entry.{Entry}
@@ -18,10 +19,10 @@ use Rattle.protocol.specs.History as protocol
 use Rattle.protocol.specs.Logs.{Same}
 use Rattle.protocol.specs.Moves.{Reached}
 use Rattle.protocol.proofs.Runs.{moves_trans}
-use Rattle.bridge.specs.Traced.{AllStand, CommitAgrees, ProposalAgrees, RemovalAgrees, holder, Holder}
+use Rattle.bridge.specs.Traced.{AllStand, CommitAgrees, Holder, IsOfBytes, PageStands, ProposalAgrees, RemovalAgrees, holder}
 use Rattle.bridge.specs.Views.{log_seen}
 use Rattle.bridge.proofs.Book.Plain.{IsTraced, SendsStand, none_won}
-use Rattle.bridge.proofs.Book.Standing.{command_in_new, stand_append, stand_more}
+use Rattle.bridge.proofs.Book.Standing.{command_in_new, pages_more, stand_append, stand_more}
 use Rattle.bridge.proofs.Rules.Say.{leading_log}
 use Rattle.bridge.proofs.Views.{length_seen}
 
@@ -59,11 +60,12 @@ module _ (n : Node) (entry : Entry) where
 module _
     {shape : Shape} {g : protocol.History} {member : ℕ} (n : Node) {book : List Proposal} (reached : Reached shape.faults g)
     (stand : AllStand (holder shape member) book 1 n.durable.log) (entry : Entry) (own : entry.term ≡ n.durable.term)
-    (whole : entry.form ≡ forms.Whole (form_bytes entry.form)) (new : command_in book entry.term (length n.durable.log + 1) ≡ None) where
+    (whole : entry.form ≡ forms.Whole (form_bytes entry.form)) (bytes : IsOfBytes (command_of entry))
+    (new : command_in book entry.term (length n.durable.log + 1) ≡ None) where
   pub adding_traced :
-      (volatile : Volatile) (sends : List Message) → volatile.role ≡ Leader → SendsStand shape member (adding entry volatile sends n) →
+      (volatile : Volatile) (sends : List Message) → volatile.role ≡ Leader → All (PageStands shape book) volatile.pages → SendsStand shape member (adding entry volatile sends n) →
       IsTraced shape g member n.durable book (adding entry volatile sends n)
-  adding_traced volatile sends leads stands h run node event =
+  adding_traced volatile sends leads seen stands h run node event =
       let p = proposal n entry event in
       let log = n.durable.log ++ entry ∷ [] in
       let more = proposals_in event volatile.role n.durable (Add entry ∷ []) in
@@ -71,15 +73,16 @@ module _
       let led : Same (log_seen log) (h.led n.durable.term) = leading_log (moves_trans shape.faults _ g h reached run) node leads in
       let long : length (log_seen log) ≡ length (h.led n.durable.term) = led.long in
       let at_own : length (h.led entry.term) ≡ length (h.led n.durable.term) = ap (λ t. length (h.led t)) own in
-      let seen : length (log_seen log) ≡ length log = length_seen log in
+      let seen_long : length (log_seen log) ≡ length log = length_seen log in
       let one_more : length log ≡ length n.durable.log + 1 = length-append n.durable.log (entry ∷ []) in
       let in_book : AllStand (holder shape member) (book ++ more) 1 log =
       subst (λ it. AllStand (holder shape member) (book ++ it) 1 log) (sym only) (longer_stands n entry (holder shape member) book stand whole new event) in
       record {
         proposals = All-same (ProposalAgrees h) more (p ∷ []) only
-            (All-cons (ProposalAgrees h) p [] (omega arith, omega (arith, long, at_own, seen, one_more)) (All-nil (ProposalAgrees h)));
+            (All-cons (ProposalAgrees h) p [] (omega arith, omega (arith, long, at_own, seen_long, one_more), bytes) (All-nil (ProposalAgrees h)));
         removals = All-nil (RemovalAgrees h);
         commits = none_won (CommitAgrees h) (has_won_term volatile.role) [] refl;
         log = in_book;
+        pages = pages_more shape book more volatile.pages seen;
         sends = stands (book ++ more) in_book;
       }

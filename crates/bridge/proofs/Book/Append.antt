@@ -23,12 +23,12 @@ use Rattle.protocol.proofs.Messages.{agrees_at}
 use Rattle.protocol.proofs.Runs.{moves_trans, sound_reached}
 use Rattle.bridge.specs.Agreement.{AppendAgrees, NodeAgrees}
 use Rattle.bridge.specs.Bridges.{TurnBridged}
-use Rattle.bridge.specs.Traced.{AllStand, CommitAgrees, IsGone, MessageStands, ProposalAgrees, RemovalAgrees, holder}
+use Rattle.bridge.specs.Traced.{AllStand, CommitAgrees, IsGone, MessageStands, PageStands, ProposalAgrees, RemovalAgrees, holder}
 use Rattle.bridge.specs.Views.{log_seen}
 use Rattle.bridge.proofs.Book.Cutting.{gone}
 use Rattle.bridge.proofs.Book.Plain.{IsTraced, none_of_follower, silent_traced, stays_traced, turned}
 use Rattle.bridge.proofs.Book.Sent.{one_stands}
-use Rattle.bridge.proofs.Book.Standing.{stand_more}
+use Rattle.bridge.proofs.Book.Standing.{pages_more, stand_more}
 use Rattle.bridge.proofs.Book.Completing.{removals_in-append}
 use Rattle.bridge.proofs.Book.Taken.{IsRemoved, IsTold, records_told}
 use Rattle.bridge.proofs.Rules.Applying.{grows_or_stays}
@@ -72,13 +72,13 @@ module _
       gone shape.faults g reached (c.index + place) entry.term member h n.durable.term run mine lost a.term term in
       subst (λ t. IsGone h t (c.index + place) entry.term) (sym removed.term) out
 
-  module _ {book : List Proposal} (stand : AllStand (holder shape member) book 1 n.durable.log) (sent : AllStand (holder shape member) book (prev + 1) entries) where
+  module _ {book : List Proposal} (stand : AllStand (holder shape member) book 1 n.durable.log) (seen : All (PageStands shape book) n.volatile.pages) (sent : AllStand (holder shape member) book (prev + 1) entries) where
     -- an act that leaves the log as those records do, by them and by others that remove nothing
     taken_traced :
-        (act : Act) (rest : List Record) → act.node.durable.term ≡ now.term → act.node.durable.log ≡ now.log → act.node.volatile.role ≡ Follower →
+        (act : Act) (rest : List Record) → All (PageStands shape book) act.node.volatile.pages → act.node.durable.term ≡ now.term → act.node.durable.log ≡ now.log → act.node.volatile.role ≡ Follower →
         act.records ≡ taken_records prev n.durable.log entries ++ rest → ((event : ℕ) → removals_in event member now rest ≡ []) →
         ((more : List Proposal) → All (MessageStands shape more) act.sends) → IsTraced shape g member n.durable book act
-    taken_traced act rest term log follows records none sends h run node event =
+    taken_traced act rest pages term log follows records none sends h run node event =
         let taken : IsTakenBy n.durable now (g.led n.durable.term) (prev + length entries) = entries_taken reached a prev prev_term commit entries told here in
         let within : prev ≤ length n.durable.log = leb-true _ _ (and_parts (nat_le prev (length n.durable.log)) _ here).0 in
         let told_of : IsTold (holder shape member) book event member n.durable (prev + length entries) (taken_records prev n.durable.log entries) =
@@ -96,6 +96,7 @@ module _
               (removed_agrees h run (node.term ∙ term ∙ taken.term) (node.log ∙ ap log_seen log)) _ all_removed;
           commits = none_of_follower (CommitAgrees h) act.node.volatile.role (all_commits_in event n.durable act.records) follows;
           log = stand_more (holder shape member) book more 1 act.node.durable.log (subst (AllStand (holder shape member) book 1) (sym log) told_of.log);
+          pages = pages_more shape book more act.node.volatile.pages pages;
           sends = sends (book ++ more);
         }
 
@@ -107,30 +108,31 @@ module _
         (λ act. IsTraced shape g member n.durable book (followed_by (act_of_entries prev entries n) (λ it. followed_by act (act_of_match leader prev (length entries)))))
         (λ grows.
         taken_traced (followed_by (act_of_entries prev entries n) (λ it. followed_by (act_of_applying index taken) (act_of_match leader prev (length entries))))
-        (Commit index ∷ []) refl refl follows refl (λ event. refl) (λ more. one_stands shape more _ tt))
+        (Commit index ∷ []) seen refl refl follows refl (λ event. refl) (λ more. one_stands shape more _ tt))
         (taken_traced (followed_by (act_of_entries prev entries n) (λ it. followed_by (stays taken) (act_of_match leader prev (length entries))))
-        [] refl refl follows refl (λ event. refl) (λ more. one_stands shape more _ tt))
+        [] seen refl refl follows refl (λ event. refl) (λ more. one_stands shape more _ tt))
 
     suited_traced : (leader : ℕ) → n.volatile.role ≡ Follower → IsTraced shape g member n.durable book (act_of_suited leader prev commit entries n)
     suited_traced leader follows =
         cond_both (is_clash n.durable.commit (difference prev n.durable.log entries)) (stays n) (act_of_taking leader prev commit entries n)
-        (IsTraced shape g member n.durable book) (λ clashes. stays_traced n.durable stand n refl) (λ suits. taking_traced leader follows)
+        (IsTraced shape g member n.durable book) (λ clashes. stays_traced n.durable stand n seen refl) (λ suits. taking_traced leader follows)
 
 heard_append_traced :
     {shape : Shape} {g : protocol.History} {member : ℕ} {n : Node} {book : List Proposal} → Reached shape.faults g → NodeAgrees shape g member n →
     (leader prev prev_term commit : ℕ) (entries : List Entry) → AppendAgrees g n.durable.term prev prev_term commit entries →
-    AllStand (holder shape member) book 1 n.durable.log → AllStand (holder shape member) book (prev + 1) entries → n.volatile.role ≡ Follower →
+    AllStand (holder shape member) book 1 n.durable.log → All (PageStands shape book) n.volatile.pages → AllStand (holder shape member) book (prev + 1) entries → n.volatile.role ≡ Follower →
     IsTraced shape g member n.durable book (act_of_heard_append leader prev prev_term commit entries n)
-heard_append_traced {shape = shape} {g = g} {member = member} {n = n} {book = book} reached a leader prev prev_term commit entries told stand sent follows =
+heard_append_traced {shape = shape} {g = g} {member = member} {n = n} {book = book} reached a leader prev prev_term commit entries told stand seen sent follows =
     cond_both (has_before n.durable.log prev prev_term) (act_of_suited leader prev commit entries n) (act_of_refusal leader n)
     (IsTraced shape g member n.durable book)
-    (λ here. suited_traced reached a prev prev_term commit entries told here stand sent leader follows)
-    (λ lacks. silent_traced n.durable stand (act_of_refusal leader n) refl refl (λ more log. one_stands shape more (message_of n (refusal n) leader) tt))
+    (λ here. suited_traced reached a prev prev_term commit entries told here stand seen sent leader follows)
+    (λ lacks. silent_traced n.durable stand (act_of_refusal leader n) seen refl refl (λ more log. one_stands shape more (message_of n (refusal n) leader) tt))
 
 module _
     {shape : Shape} {g : protocol.History} {member : ℕ} {n : Node} {book : List Proposal} (reached : Reached shape.faults g) (a : NodeAgrees shape g member n)
     (leader prev prev_term commit : ℕ) (entries : List Entry) (apart : leader ≢ member)
-    (told : AppendAgrees g n.durable.term prev prev_term commit entries) (stand : AllStand (holder shape member) book 1 n.durable.log) (sent : AllStand (holder shape member) book (prev + 1) entries) where
+    (told : AppendAgrees g n.durable.term prev prev_term commit entries) (stand : AllStand (holder shape member) book 1 n.durable.log)
+    (seen : All (PageStands shape book) n.volatile.pages) (sent : AllStand (holder shape member) book (prev + 1) entries) where
   following_turned : TurnBridged shape g book member n.durable (act_of_following leader prev prev_term commit entries n)
   following_turned =
       let moves = restarts g member in
@@ -143,11 +145,11 @@ module _
       record {
         bridged = after_moves moves next;
         traced = λ event.
-            heard_append_traced later node leader prev prev_term commit entries still stand sent refl next.history (next.moves).run next.node event;
+            heard_append_traced later node leader prev prev_term commit entries still stand seen sent refl next.history (next.moves).run next.node event;
       }
 
   pub append_as_turned : (role : Role) → TurnBridged shape g book member n.durable (act_of_append_as role n leader prev prev_term commit entries)
   append_as_turned Follower = following_turned
   append_as_turned Candidate = following_turned
-  append_as_turned Preparing = turned (unmoved_stays a) (stays_traced n.durable stand n refl)
-  append_as_turned Leader = turned (unmoved_stays a) (stays_traced n.durable stand n refl)
+  append_as_turned Preparing = turned (unmoved_stays a) (stays_traced n.durable stand n seen refl)
+  append_as_turned Leader = turned (unmoved_stays a) (stays_traced n.durable stand n seen refl)

@@ -1,5 +1,5 @@
 -- A request that a leader adds to its log is proposed by it, and stands in the book; no other answer proposes anything.
-use Rattle.std.proofs.Common.{◌≡◌, ℕ, ◌+◌, None, List, length, map, refl, ap, arith}
+use Rattle.std.proofs.Common.{◌≡◌, ℕ, ◌+◌, ◌<◌, None, List, length, map, refl, ap, arith}
 use Rattle.std.specs.List.{All}
 use Rattle.std.specs.Option.{option_to_list}
 use Rattle.std.proofs.lemmas.Bool.{cond_both}
@@ -24,7 +24,7 @@ use Rattle.protocol.specs.Logs.{Same}
 use Rattle.protocol.specs.Moves.{Reached}
 use Rattle.bridge.specs.Agreement.{NodeAgrees}
 use Rattle.bridge.specs.Bridges.{TurnBridged}
-use Rattle.bridge.specs.Traced.{AllStand, MessageStands, ProposalAgrees, holder}
+use Rattle.bridge.specs.Traced.{AllStand, MessageStands, PageStands, ProposalAgrees, holder}
 use Rattle.bridge.specs.Views.{log_seen}
 use Rattle.bridge.proofs.Book.Adding.{adding_traced}
 use Rattle.bridge.proofs.Book.Plain.{IsTraced, silent_traced, turned}
@@ -51,17 +51,19 @@ nothing_behind {g = g} {n = n} reached a leads book proposed =
 
 module _
     {shape : Shape} {g : protocol.History} {member : ℕ} (n : Node) {book : List Proposal} (reached : Reached shape.faults g)
-    (a : NodeAgrees shape g member n) (stand : AllStand (holder shape member) book 1 n.durable.log) (proposed : All (ProposalAgrees g) book) (place : ℕ) (r : Request) where
+    (a : NodeAgrees shape g member n) (stand : AllStand (holder shape member) book 1 n.durable.log)
+    (seen : All (PageStands shape book) n.volatile.pages) (proposed : All (ProposalAgrees g) book) (place : ℕ) (r : Request) (bytes : All (λ byte. byte < 256) r.value) where
   -- what is told at once proposes nothing
   reply_traced : (reply : Reply) → IsTraced shape g member n.durable book (act_of_reply place r reply n)
-  reply_traced reply = silent_traced n.durable stand (act_of_reply place r reply n) refl refl (λ more log. All-nil (MessageStands shape more))
+  reply_traced reply = silent_traced n.durable stand (act_of_reply place r reply n) seen refl refl (λ more log. All-nil (MessageStands shape more))
 
   module _ (leads : n.volatile.role ≡ Leader) where
     asking_traced : IsTraced shape g member n.durable book (act_of_asking place r n)
     asking_traced =
         let now = (act_of_adding place r n).node in
-        adding_traced n reached stand (entry_for n.durable.term r) refl refl (nothing_behind reached a leads book proposed) (calling place r (act_of_entry r n).node)
-        (act_of_asking place r n).sends leads (λ more log. some_appends_stand shape more (holder shape member) now log (up_to_date now))
+        adding_traced n reached stand (entry_for n.durable.term r) refl refl (refl, bytes) (nothing_behind reached a leads book proposed) (calling place r (act_of_entry r n).node)
+        (act_of_asking place r n).sends leads seen
+        (λ more log. some_appends_stand shape more member now a.of_shape log (up_to_date now))
 
     request_traced : (kept : Kept) → IsTraced shape g member n.durable book (act_of_request place r kept n)
     request_traced keeps.New =
@@ -71,7 +73,7 @@ module _
         cond_both (is_busy n.durable.commit n.durable.log) (act_of_reply place r replies.Busy n) (act_of_asking place r n)
         (IsTraced shape g member n.durable book) (λ busy. reply_traced replies.Busy) (λ free. asking_traced))
     request_traced (keeps.Same outcome) =
-        silent_traced n.durable stand (answering (map (reply_for place r) (option_to_list (reply_of n.durable.log outcome))) (stays n)) refl refl
+        silent_traced n.durable stand (answering (map (reply_for place r) (option_to_list (reply_of n.durable.log outcome))) (stays n)) seen refl refl
         (λ more log. All-nil (MessageStands shape more))
     request_traced keeps.Old = reply_traced replies.Old
 

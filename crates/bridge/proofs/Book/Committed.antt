@@ -1,5 +1,6 @@
 -- What a leader commits by a match: its term's leader decided it, since its commit index grew while it led.
 use Rattle.std.proofs.Common.{◌≡◌, ℕ, ◌<◌, ◌≤◌, true, List, [], ◌∷◌, ◌++◌, length, take, refl, sym, ap, subst, ◌∙◌, inl, inr, arith, length-take-le}
+use Rattle.std.specs.List.{All}
 use Rattle.std.proofs.lemmas.List.Elements.{All-cons, All-nil}
 use Rattle.craft_base.specs.Knowledge.{Matched, Refused}
 use Rattle.craft_base.specs.Shape.{Shape}
@@ -21,11 +22,11 @@ use Rattle.protocol.proofs.Logs.{agree_less, agree_trans}
 use Rattle.protocol.proofs.Slots.{front_take}
 use Rattle.protocol.proofs.Runs.{moves_trans, sound_reached}
 use Rattle.bridge.specs.Agreement.{NodeAgrees}
-use Rattle.bridge.specs.Traced.{AllStand, CommitAgrees, ProposalAgrees, RemovalAgrees, holder}
+use Rattle.bridge.specs.Traced.{AllStand, CommitAgrees, PageStands, ProposalAgrees, RemovalAgrees, holder}
 use Rattle.bridge.specs.Views.{log_seen, role_seen}
 use Rattle.bridge.proofs.Book.Plain.{IsTraced, all_won, none_won, silent_traced, stays_traced}
 use Rattle.bridge.proofs.Book.Sent.{append_if_any_stands, append_stands, one_stands}
-use Rattle.bridge.proofs.Book.Standing.{stand_more}
+use Rattle.bridge.proofs.Book.Standing.{pages_more, stand_more}
 use Rattle.bridge.proofs.Rules.Applying.{grows_or_stays}
 use Rattle.bridge.proofs.Rules.Say.{leading_log}
 use Rattle.bridge.proofs.Steps.{reached_grows}
@@ -75,8 +76,9 @@ module _
       )
 
   progress_traced :
-      {book : List Proposal} → AllStand (holder shape member) book 1 n.durable.log → (receiver : ℕ) → IsTraced shape g member n.durable book (act_of_progress receiver n)
-  progress_traced {book = book} stand receiver =
+      {book : List Proposal} → AllStand (holder shape member) book 1 n.durable.log → All (PageStands shape book) n.volatile.pages → (receiver : ℕ) →
+      IsTraced shape g member n.durable book (act_of_progress receiver n)
+  progress_traced {book = book} stand seen receiver =
       let index = commit_of_leader n in
       grows_or_stays n index (λ act. IsTraced shape g member n.durable book (followed_by act (act_of_next receiver)))
       (λ above h run node event.
@@ -90,27 +92,29 @@ module _
         commits = all_won (CommitAgrees h) (has_won_term n.volatile.role) (c ∷ [])
             (All-cons (CommitAgrees h) c [] (committed_agrees index event above h run node) (All-nil (CommitAgrees h)));
         log = log;
-        sends = append_if_any_stands shape (book ++ more) (holder shape member) now log receiver;
+        pages = pages_more shape book more n.volatile.pages seen;
+        sends = append_if_any_stands shape (book ++ more) member now a.of_shape log receiver;
       })
-      (silent_traced n.durable stand (followed_by (stays n) (act_of_next receiver)) refl refl (λ now log. append_if_any_stands shape now (holder shape member) n log receiver))
+      (silent_traced n.durable stand (followed_by (stays n) (act_of_next receiver)) seen refl refl
+      (λ now log. append_if_any_stands shape now member n a.of_shape log receiver))
 
 module _
     {shape : Shape} {g : protocol.History} {member : ℕ} (n : Node) {book : List Proposal} (reached : Reached shape.faults g)
-    (stand : AllStand (holder shape member) book 1 n.durable.log) (sender : ℕ) where
+    (stand : AllStand (holder shape member) book 1 n.durable.log) (seen : All (PageStands shape book) n.volatile.pages) (of_shape : n.shape ≡ shape) (sender : ℕ) where
   pub matched_as_traced :
       (role : Role) (prev count mask : ℕ) → n.volatile.role ≡ role →
-      NodeAgrees shape g member (node_hearing (log_heard n sender (Matched prev count mask)) n) →
+      (n.volatile.role ≡ Leader → NodeAgrees shape g member (node_hearing (log_heard n sender (Matched prev count mask)) n)) →
       IsTraced shape g member n.durable book (act_of_matched_as role n sender prev count mask)
-  matched_as_traced Follower prev count mask e a = stays_traced n.durable stand n refl
-  matched_as_traced Candidate prev count mask e a = stays_traced n.durable stand n refl
-  matched_as_traced Preparing prev count mask e a = stays_traced n.durable stand n refl
-  matched_as_traced Leader prev count mask e a = progress_traced reached a e stand sender
+  matched_as_traced Follower prev count mask e a = stays_traced n.durable stand n seen refl
+  matched_as_traced Candidate prev count mask e a = stays_traced n.durable stand n seen refl
+  matched_as_traced Preparing prev count mask e a = stays_traced n.durable stand n seen refl
+  matched_as_traced Leader prev count mask e a = progress_traced reached (a e) e stand seen sender
 
   pub refused_as_traced : (role : Role) (next : ℕ) → IsTraced shape g member n.durable book (act_of_refused_as role n sender next)
-  refused_as_traced Follower next = stays_traced n.durable stand n refl
-  refused_as_traced Candidate next = stays_traced n.durable stand n refl
-  refused_as_traced Preparing next = stays_traced n.durable stand n refl
+  refused_as_traced Follower next = stays_traced n.durable stand n seen refl
+  refused_as_traced Candidate next = stays_traced n.durable stand n seen refl
+  refused_as_traced Preparing next = stays_traced n.durable stand n seen refl
   refused_as_traced Leader next =
       let now = node_hearing (log_heard n sender (Refused next)) n in
-      silent_traced n.durable stand (act_of_retry sender now) refl refl
-      (λ more log. one_stands shape more (append_to now sender) (append_stands shape more (holder shape member) now log sender))
+      silent_traced n.durable stand (act_of_retry sender now) seen refl refl
+      (λ more log. one_stands shape more (append_to now sender) (append_stands shape more member now of_shape log sender))

@@ -9,7 +9,8 @@ use Rattle.craft_base.specs.declared.command.Form.TheVariants as forms
 use Rattle.entry_frames.specs.Durable.{Durable, after, applied, complete_at, completed}
 use Rattle.entry_frames.specs.Logs as node
 use Rattle.entry_frames.specs.Records.{Record}
-use Rattle.world_model.specs.Rules.Append.{completion, completion_of, completions, is_same_head}
+use Rattle.leader_prep.specs.Verdicts.{is_same_head}
+use Rattle.world_model.specs.Rules.Append.{completion, completion_of, completions}
 use Rattle.world_model.specs.Safety.{Holds, command_in}
 use Rattle.world_model.specs.Traces.{Command, Proposal, removals_in, removals_of}
 use Rattle.world_model.proofs.Recorded.{after-append}
@@ -52,7 +53,7 @@ none_by_completing event member d index (first ∷ own) (entry ∷ entries) =
 
 module _ (at : Holder) (book : List Proposal) where
   -- where the entry at a position stands with its value
-  complete_stands :
+  pub complete_stands :
       (first : ℕ) (log : List Entry) (position index : ℕ) (bytes : List ℕ) → first + position ≡ index → AllStand at book first log →
       ((own : Entry) → slice_get log position ≡ Some own → StandsAt at book index own → StandsAt at book index (completed own bytes)) →
       AllStand at book first (complete_at log position bytes)

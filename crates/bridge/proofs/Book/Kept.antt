@@ -10,7 +10,7 @@ use Rattle.bridge.specs.Traced.{CommitAgrees, ProposalAgrees, RemovalAgrees}
 
 module _ {g h : History} (x : Grows g h) where
   proposal_stays : (p : Proposal) → ProposalAgrees g p → ProposalAgrees h p
-  proposal_stays p agrees = (agrees.0, le_trans agrees.1 (x.led p.term).right)
+  proposal_stays p agrees = (agrees.0, le_trans agrees.1 (x.led p.term).right, agrees.2)
 
   pub proposals_stay : (book : List Proposal) → All (ProposalAgrees g) book → All (ProposalAgrees h) book
   proposals_stay book all = All-weaker (ProposalAgrees g) (ProposalAgrees h) proposal_stays book all

@@ -14,8 +14,8 @@ use Rattle.protocol.specs.History.{History}
 use Rattle.protocol.specs.Moves.{Moves}
 use Rattle.bridge.specs.Agreement.{NodeAgrees}
 use Rattle.bridge.specs.Bridges.{ActBridged, ActTraced, TurnBridged}
-use Rattle.bridge.specs.Traced.{AllStand, CommitAgrees, MessageStands, ProposalAgrees, RemovalAgrees, holder}
-use Rattle.bridge.proofs.Book.Standing.{stand_more}
+use Rattle.bridge.specs.Traced.{AllStand, CommitAgrees, MessageStands, PageStands, ProposalAgrees, RemovalAgrees, holder}
+use Rattle.bridge.proofs.Book.Standing.{pages_more, stand_more}
 
 -- an act of a member that had this durable state is traced, whatever moves from that history make its node agree
 abbrev pub IsTraced : Shape → History → (member : ℕ) → Durable → List Proposal → Act → Type 0
@@ -53,10 +53,10 @@ SendsStand shape member act = (book : List Proposal) → AllStand (holder shape 
 
 module _ {shape : Shape} {g : History} {member : ℕ} {book : List Proposal} (before : Durable) (stand : AllStand (holder shape member) book 1 before.log) where
   pub plain_traced :
-      (act : Act) → act.node.durable.log ≡ before.log → ((event : ℕ) → all_proposals_in event before act.records ≡ []) →
+      (act : Act) → All (PageStands shape book) act.node.volatile.pages → act.node.durable.log ≡ before.log → ((event : ℕ) → all_proposals_in event before act.records ≡ []) →
       ((event : ℕ) → removals_in event member before act.records ≡ []) → ((event : ℕ) → all_commits_in event before act.records ≡ []) →
       SendsStand shape member act → IsTraced shape g member before book act
-  plain_traced act same no_proposals no_removals no_commits sends h run node event =
+  plain_traced act seen same no_proposals no_removals no_commits sends h run node event =
       let more = proposals_in event act.node.volatile.role before act.records in
       let log : AllStand (holder shape member) (book ++ more) 1 act.node.durable.log =
       subst (AllStand (holder shape member) (book ++ more) 1) (sym same) (stand_more (holder shape member) book more 1 before.log stand) in
@@ -65,15 +65,18 @@ module _ {shape : Shape} {g : History} {member : ℕ} {book : List Proposal} (be
         removals = All-same (RemovalAgrees h) _ [] (no_removals event) (All-nil (RemovalAgrees h));
         commits = none_won (CommitAgrees h) (has_won_term act.node.volatile.role) (all_commits_in event before act.records) (no_commits event);
         log = log;
+        pages = pages_more shape book more act.node.volatile.pages seen;
         sends = sends (book ++ more) log;
       }
 
   -- an act that records nothing
-  pub silent_traced : (act : Act) → act.node.durable.log ≡ before.log → act.records ≡ [] → SendsStand shape member act → IsTraced shape g member before book act
-  silent_traced act same none sends =
-      plain_traced act same (λ event. subst (λ records. all_proposals_in event before records ≡ []) (sym none) refl)
+  pub silent_traced :
+      (act : Act) → All (PageStands shape book) act.node.volatile.pages → act.node.durable.log ≡ before.log → act.records ≡ [] → SendsStand shape member act →
+      IsTraced shape g member before book act
+  silent_traced act seen same none sends =
+      plain_traced act seen same (λ event. subst (λ records. all_proposals_in event before records ≡ []) (sym none) refl)
       (λ event. subst (λ records. removals_in event member before records ≡ []) (sym none) refl)
       (λ event. subst (λ records. all_commits_in event before records ≡ []) (sym none) refl) sends
 
-  pub stays_traced : (n : Node) → n.durable.log ≡ before.log → IsTraced shape g member before book (stays n)
-  stays_traced n same = silent_traced (stays n) same refl (λ more log. All-nil (MessageStands shape more))
+  pub stays_traced : (n : Node) → All (PageStands shape book) n.volatile.pages → n.durable.log ≡ before.log → IsTraced shape g member before book (stays n)
+  stays_traced n seen same = silent_traced (stays n) seen same refl (λ more log. All-nil (MessageStands shape more))

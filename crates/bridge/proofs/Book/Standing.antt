@@ -2,7 +2,7 @@
 use Rattle.std.proofs.Common.{◌≡◌, ℕ, zero, suc, ◌+◌, ◌&&◌, ◌==◌, Bool, true, false, if◌then◌else◌, List, [], ◌∷◌, ◌++◌, length, take, drop, Option, None, Some, slice_get, refl, subst, arith}
 use Rattle.std.specs.List.{All}
 use Rattle.std.proofs.lemmas.Bool.{cond_both, and_parts, and_from, eqb-true, eq-eqb}
-use Rattle.std.proofs.lemmas.List.Elements.{All-head, All-tail}
+use Rattle.std.proofs.lemmas.List.Elements.{All-head, All-tail, All-weaker}
 use Rattle.std.proofs.lemmas.Option.{same_Some}
 use Rattle.craft_base.specs.Shape.{Shape}
 use Rattle.craft_base.specs.declared.command.Entry.{Entry}
@@ -10,9 +10,10 @@ use Rattle.entry_frames.specs.declared.message.Message.{Message}
 use Rattle.entry_frames.specs.declared.message.Message.TheVariants as messages
 use Rattle.entry_frames.specs.declared.peer.Peer.{Peer}
 use Rattle.entry_frames.specs.declared.peer.Peer.TheVariants as peers
+use Rattle.leader_prep.specs.Pages.{Page}
 use Rattle.world_model.specs.Safety.{command_in}
 use Rattle.world_model.specs.Traces.{Command, Proposal}
-use Rattle.bridge.specs.Traced.{AllStand, Holder, MessageStands, PeerStands, StandsAt, holder}
+use Rattle.bridge.specs.Traced.{AllStand, Holder, MessageStands, PageStands, PeerStands, StandsAt}
 
 -- ---- what is found in a book
 
@@ -72,19 +73,26 @@ module _ (at : Holder) where
   stand_more book more index (entry ∷ entries) stand =
       (stands_more book more index entry stand.0, stand_more book more (index + 1) entries stand.1)
 
-  peer_more : (book more : List Proposal) (body : Peer) → PeerStands at book body → PeerStands at (book ++ more) body
-  peer_more book more (peers.Append prev prev_term commit entries) stand = stand_more book more (prev + 1) entries stand
-  peer_more book more (peers.Vote last_term last) stand = tt
-  peer_more book more (peers.VoteReply granted) stand = tt
-  peer_more book more (peers.Matched prev count mask) stand = tt
-  peer_more book more (peers.Refused next) stand = tt
-  peer_more book more (peers.Ask start) stand = tt
-  peer_more book more (peers.Answer start last slots) stand = tt
+module _ (shape : Shape) (book more : List Proposal) where
+  peer_more : (sender receiver : ℕ) (body : Peer) → PeerStands shape book sender receiver body → PeerStands shape (book ++ more) sender receiver body
+  peer_more sender receiver (peers.Append prev prev_term commit entries) stand = stand_more _ book more (prev + 1) entries stand
+  peer_more sender receiver (peers.Answer start last slots) stand = stand_more _ book more start slots stand
+  peer_more sender receiver (peers.Vote last_term last) stand = tt
+  peer_more sender receiver (peers.VoteReply granted) stand = tt
+  peer_more sender receiver (peers.Matched prev count mask) stand = tt
+  peer_more sender receiver (peers.Refused next) stand = tt
+  peer_more sender receiver (peers.Ask start) stand = tt
 
-pub message_more : (shape : Shape) (book more : List Proposal) (m : Message) → MessageStands shape book m → MessageStands shape (book ++ more) m
-message_more shape book more (messages.Peer sender receiver term body) stand = peer_more (holder shape receiver) book more body stand
-message_more shape book more (messages.Request receiver request) stand = tt
-message_more shape book more (messages.Answered sender client seq reply) stand = tt
+  page_more : (page : Page) → PageStands shape book page → PageStands shape (book ++ more) page
+  page_more page stand = stand_more _ book more page.start page.slots stand
+
+  pub pages_more : (pages : List Page) → All (PageStands shape book) pages → All (PageStands shape (book ++ more)) pages
+  pages_more pages all = All-weaker (PageStands shape book) (PageStands shape (book ++ more)) page_more pages all
+
+  pub message_more : (m : Message) → MessageStands shape book m → MessageStands shape (book ++ more) m
+  message_more (messages.Peer sender receiver term body) stand = peer_more sender receiver body stand
+  message_more (messages.Request receiver request) stand = tt
+  message_more (messages.Answered sender client seq reply) stand = tt
 
 -- ---- parts of a log
 

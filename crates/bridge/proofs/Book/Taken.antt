@@ -38,7 +38,7 @@ pub record IsTold (at : Holder) (book : List Proposal) (event member : ℕ) (d :
   pub removals : All (IsRemoved d (after d records) reach) (removals_in event member d records)
 
 -- an entry of a stretch of a log stands in the log, so much further on
-stretch_has :
+pub stretch_has :
     (log : List Entry) (n place : ℕ) (entry : Entry) → slice_get (drop n log) place ≡ Some entry → Has (log_seen log) (n + 1 + place) entry.term
 stretch_has log n place entry e =
     let within : place < length (drop n log) = slice_get_within (drop n log) place entry e in

@@ -1,6 +1,6 @@
 -- Each rule keeps what is said of the requests that wait, and what it tells clients is told of what is committed then. Only a leader
 -- adds requests, only at the end of its log, and no leader cuts its log.
-use Rattle.std.proofs.Common.{◌≡◌, ℕ, ◌+◌, ◌<◌, min, nat_lt, Bool, true, Option, None, Some, List, [], ◌∷◌, ◌++◌, length, drop, take, refl, sym, subst}
+use Rattle.std.proofs.Common.{◌≡◌, ℕ, ◌+◌, ◌<◌, ◌==◌, min, nat_lt, Bool, true, Option, None, Some, List, [], ◌∷◌, ◌++◌, length, drop, take, refl, sym, subst}
 use Rattle.std.specs.List.{All}
 use Rattle.std.proofs.lemmas.Bool.{cond_both}
 use Rattle.std.proofs.lemmas.List.Elements.{All-append, All-nil, All-same}
@@ -17,18 +17,22 @@ use Rattle.entry_frames.specs.declared.role.Role.TheVariants.{Follower, Candidat
 use Rattle.world_model.specs.Nodes.{Node, node_hearing}
 use Rattle.world_model.specs.Rules.Acts.{Act, followed_by, keeping, message_of, recording, sending, stays}
 use Rattle.world_model.specs.Rules.Append.{act_of_append_as, act_of_entries, act_of_heard_append, act_of_refusal, act_of_suited, act_of_taking, difference, following, has_before, is_clash, mask_of}
+use Rattle.leader_prep.specs.Pages.{Page}
+use Rattle.world_model.specs.Rules.Answer.{act_of_answer_as, answer_heard, node_seeing}
+use Rattle.world_model.specs.Rules.Ask.{act_of_ask_as, act_of_asked}
 use Rattle.world_model.specs.Rules.Applying.{act_of_applying, act_of_commit}
 use Rattle.world_model.specs.Rules.Matched.{act_of_matched_as, act_of_refused_as, act_of_retry, commit_of_leader, log_heard}
-use Rattle.world_model.specs.Rules.Prepare.{act_of_leading, noop}
+use Rattle.world_model.specs.Rules.Prepare.{act_of_asking_all, act_of_asking_on, act_of_deciding, act_of_first, act_of_later, act_of_leading, act_of_preparing, act_of_winning, cursor_at, noop, preparing}
 use Rattle.world_model.specs.Rules.Say.{act_of_saying, append_if_any}
 use Rattle.world_model.specs.Rules.Terms.{act_of_higher_term, act_of_lower_term, act_of_term}
-use Rattle.world_model.specs.Rules.Tick.{act_of_election, act_of_tick_as, act_of_waiting, is_due, waiting_node}
+use Rattle.world_model.specs.Rules.Tick.{act_of_asking_again, act_of_election, act_of_tick_as, act_of_waiting, is_due, waiting_node}
 use Rattle.world_model.specs.Rules.Vote.{act_of_grant, act_of_vote_from, act_of_vote_refusal, act_of_vote_request, is_grantor}
 use Rattle.world_model.specs.Rules.VoteReply.{act_of_count, act_of_vote_reply_as, has_won, vote_heard}
 use Rattle.world_model.specs.Turn.{act_of_message, act_of_peer}
+use Rattle.world_model.specs.declared.call.Called.{Called}
 use Rattle.bridge.proofs.Replies.Calls.{CallStands, CallsStand, IsToldBy, applying_told, each_stands, some_stand}
 use Rattle.bridge.proofs.Rules.Applying.{grows_or_stays}
-use Rattle.bridge.proofs.Rules.Prepare.{announcing}
+use Rattle.bridge.proofs.Beginning.{announcing}
 
 -- each request that waits at the node stands in its log
 abbrev pub IsAnswering : Node → Type 0
@@ -78,10 +82,14 @@ waiting_answers n word none calls =
     cond_both (is_due n.volatile.quiet word n.durable.term) (act_of_election n) (stays n) ActAnswers
     (λ due. silent (act_of_election n) refl none) (λ early. silent (stays n) refl calls)
 
+asking_again_answers : (cursor : Option ℕ) (n : Node) → IsAnswering n → ActAnswers (act_of_asking_again cursor n)
+asking_again_answers None n calls = silent (stays n) refl calls
+asking_again_answers (Some cursor) n calls = silent (act_of_asking_all cursor n) refl calls
+
 tick_as_answers : (role : Role) (word : ℕ) (n : Node) → n.volatile.role ≡ role → IsAnswering n → ActAnswers (act_of_tick_as role word n)
 tick_as_answers Follower word n e calls = waiting_answers (waiting_node n) word (of_role n Follower e calls) calls
 tick_as_answers Candidate word n e calls = waiting_answers (waiting_node n) word (of_role n Candidate e calls) calls
-tick_as_answers Preparing word n e calls = silent (stays (node_hearing Beat n)) refl calls
+tick_as_answers Preparing word n e calls = asking_again_answers (cursor_at n) (node_hearing Beat n) calls
 tick_as_answers Leader word n e calls = silent (act_of_saying (node_hearing Beat n)) refl calls
 
 -- ---- votes
@@ -105,9 +113,42 @@ leading_answers n none =
     (λ room. silent _ refl (All-same (CallStands (n.durable.log ++ noop n.durable.term ∷ [])) n.volatile.calls [] none (All-nil (CallStands (n.durable.log ++ noop n.durable.term ∷ [])))))
     (λ full. silent _ refl (All-same (CallStands n.durable.log) n.volatile.calls [] none (All-nil (CallStands n.durable.log))))
 
+-- whoever waits to answer nothing
+nothing_waits : (role : Role) (log : List Entry) (calls : List Called) → calls ≡ [] → CallsStand role log calls
+nothing_waits Leader log calls none = All-same (CallStands log) calls [] none (All-nil (CallStands log))
+nothing_waits Follower log calls none = none
+nothing_waits Candidate log calls none = none
+nothing_waits Preparing log calls none = none
+
+still_waits : (n : Node) → n.volatile.calls ≡ [] → IsAnswering n
+still_waits n none = nothing_waits n.volatile.role n.durable.log n.volatile.calls none
+
+first_answers : (left : Option ℕ) (n : Node) → n.volatile.calls ≡ [] → ActAnswers (act_of_first left n)
+first_answers None n none = leading_answers n none
+first_answers (Some cursor) n none = silent (act_of_asking_all cursor n) refl (still_waits n none)
+
+later_answers : (before left : Option ℕ) (n : Node) → n.volatile.calls ≡ [] → ActAnswers (act_of_later before left n)
+later_answers before None n none = leading_answers n none
+later_answers None (Some cursor) n none = silent (stays n) refl (still_waits n none)
+later_answers (Some before) (Some cursor) n none =
+    cond_both (before == cursor) (stays n) (act_of_asking_on cursor n) ActAnswers
+    (λ same. silent (stays n) refl (still_waits n none)) (λ moved. silent (act_of_asking_on cursor n) refl (still_waits n none))
+
+winning_answers : (n : Node) → n.volatile.calls ≡ [] → ActAnswers (act_of_winning n)
+winning_answers n none =
+    let decided : Node = (act_of_deciding (record n { volatile = preparing n })).node in
+    let next = first_answers (cursor_at decided) decided none in
+    record { calls = next.calls; replies = next.replies }
+
+preparing_answers : (n : Node) → n.volatile.calls ≡ [] → ActAnswers (act_of_preparing n)
+preparing_answers n none =
+    let decided : Node = (act_of_deciding n).node in
+    let next = later_answers (cursor_at n) (cursor_at decided) decided none in
+    record { calls = next.calls; replies = next.replies }
+
 count_answers : (n : Node) → n.volatile.calls ≡ [] → IsAnswering n → ActAnswers (act_of_count n)
 count_answers n none calls =
-    cond_both (has_won n) (act_of_leading n) (stays n) ActAnswers (λ won. leading_answers n none) (λ waits. silent (stays n) refl calls)
+    cond_both (has_won n) (act_of_winning n) (stays n) ActAnswers (λ won. winning_answers n none) (λ waits. silent (stays n) refl calls)
 
 vote_reply_as_answers :
     (role : Role) (n : Node) (sender : ℕ) (granted : Bool) → n.volatile.role ≡ role → IsAnswering n → ActAnswers (act_of_vote_reply_as role n sender granted)
@@ -164,6 +205,25 @@ refused_as_answers Candidate n sender next calls = silent (stays n) refl calls
 refused_as_answers Preparing n sender next calls = silent (stays n) refl calls
 refused_as_answers Leader n sender next calls = silent (act_of_retry sender (node_hearing (log_heard n sender (Refused next)) n)) refl calls
 
+-- ---- who asks, whom a node that waits to answer none follows
+
+asked_answers : (n : Node) (asker start : ℕ) → n.volatile.calls ≡ [] → ActAnswers (act_of_asked asker start n)
+asked_answers n asker start none = silent (act_of_asked asker start n) refl none
+
+ask_as_answers : (role : Role) (n : Node) (asker start : ℕ) → n.volatile.role ≡ role → IsAnswering n → ActAnswers (act_of_ask_as role n asker start)
+ask_as_answers Follower n asker start e calls = asked_answers n asker start (of_role n Follower e calls)
+ask_as_answers Candidate n asker start e calls = asked_answers n asker start (of_role n Candidate e calls)
+ask_as_answers Preparing n asker start e calls = silent (stays n) refl calls
+ask_as_answers Leader n asker start e calls = silent (stays n) refl calls
+
+-- ---- what others show, which only a node that waits to answer none makes use of
+
+answer_as_answers : (role : Role) (n : Node) (page : Page) → n.volatile.role ≡ role → IsAnswering n → ActAnswers (act_of_answer_as role n page)
+answer_as_answers Follower n page e calls = silent (stays n) refl calls
+answer_as_answers Candidate n page e calls = silent (stays n) refl calls
+answer_as_answers Preparing n page e calls = preparing_answers (node_seeing page (node_hearing (answer_heard n page.sender) n)) (of_role n Preparing e calls)
+answer_as_answers Leader n page e calls = silent (stays (node_hearing (answer_heard n page.sender) n)) refl calls
+
 -- ---- a message
 
 peer_answers : (n : Node) (sender : ℕ) (body : Peer) → IsAnswering n → ActAnswers (act_of_peer n sender body)
@@ -173,8 +233,9 @@ peer_answers n sender (peers.Append prev prev_term commit entries) calls =
     append_as_answers n.volatile.role n sender prev prev_term commit entries refl calls
 peer_answers n sender (peers.Matched prev count mask) calls = matched_as_answers n.volatile.role n sender prev count mask calls
 peer_answers n sender (peers.Refused next) calls = refused_as_answers n.volatile.role n sender next calls
-peer_answers n sender (peers.Ask start) calls = silent (stays n) refl calls
-peer_answers n sender (peers.Answer start last slots) calls = silent (stays n) refl calls
+peer_answers n sender (peers.Ask start) calls = ask_as_answers n.volatile.role n sender start refl calls
+peer_answers n sender (peers.Answer start last slots) calls =
+    answer_as_answers n.volatile.role n (record { sender = sender; start = start; last = last; slots = slots }) refl calls
 
 behind_term_answers : (at : ℕ) (n : Node) (rule : Node → Act) → IsAnswering n → ((now : Node) → IsAnswering now → ActAnswers (rule now)) → ActAnswers (followed_by (act_of_term at n) rule)
 behind_term_answers at n rule calls each =

@@ -32,7 +32,7 @@ use Rattle.bridge.proofs.Steps.{moved, moved_then, own_move, reached_grows, send
 use Rattle.bridge.proofs.Taking.{IsTaken}
 use Rattle.bridge.proofs.TakenRecords.{IsTakenBy, records_taken}
 use Rattle.bridge.proofs.Views.{length_seen, term_at_seen}
-use Rattle.bridge.proofs.Starts.{knows_follower}
+use Rattle.bridge.proofs.Starts.{knows_follower, pages_follower}
 use Rattle.bridge.proofs.Rules.Applying.{learn_then}
 use Rattle.bridge.proofs.Rules.Terms.{refusal_agrees}
 
@@ -55,12 +55,12 @@ match_bridged {g = g} {member = member} {n = n} reached a leader prev count apar
 
 -- the commit index grows where it can, and the leader is told
 learn_and_match :
-    {shape : Shape} {g : protocol.History} {member : ℕ} {n : Node} → Reached shape.faults g → NodeAgrees shape g member n →
+    {shape : Shape} {g : protocol.History} {member : ℕ} {n : Node} → Reached shape.faults g → NodeAgrees shape g member n → n.volatile.role ≡ Follower →
     (leader prev count index : ℕ) → leader ≢ member → Agree (log_seen n.durable.log) (g.led n.durable.term) (prev + count) →
     index ≤ prev + count → (index ≤ g.base n.durable.term) ⊎ (index ≤ g.decided n.durable.term) →
     ActBridged shape g member (followed_by (act_of_commit index n) (act_of_match leader prev count))
-learn_and_match reached a leader prev count index apart agrees within known =
-    learn_then reached a index (act_of_match leader prev count) (agree_less index within agrees) known
+learn_and_match reached a follows leader prev count index apart agrees within known =
+    learn_then reached a follows index (act_of_match leader prev count) (agree_less index within agrees) known
     (λ later node. match_bridged later node leader prev count apart agrees) (match_bridged reached a leader prev count apart agrees)
 
 -- ---- the entries
@@ -117,6 +117,7 @@ module _
         subst (λ t. All (HeardAgrees accepted t member) n.volatile.heard) (sym entries_taken.term)
         (all_heard_stays (reached_grows reached accepts.run) n.durable.term member n.volatile.heard a.heard);
     knows = knows_follower (length taken.log) n.volatile.first n.volatile.heard follows;
+    pages = pages_follower accepted taken.term _ n.volatile.pages follows;
     needs = a.needs;
   }
 
@@ -131,7 +132,7 @@ module _
       moved_then reached (act_of_entries prev entries n)
       (λ now. followed_by (act_of_commit (min commit (prev + length entries)) now) (act_of_match leader prev (length entries))) accepts (accepted_agrees follows)
       (sends_none accepted)
-      (λ later. learn_and_match later (accepted_agrees follows) leader prev (length entries) index apart reach (omega arith) known)
+      (λ later. learn_and_match later (accepted_agrees follows) follows leader prev (length entries) index apart reach (omega arith) known)
 
   suited_bridged : (leader : ℕ) → leader ≢ member → n.volatile.role ≡ Follower → ActBridged shape g member (act_of_suited leader prev commit entries n)
   suited_bridged leader apart follows =

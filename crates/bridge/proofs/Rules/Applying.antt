@@ -1,9 +1,9 @@
 -- Applying: where the commit index grows, a follower makes the move learn, and a leader acknowledges its own log and makes the move
 -- decide.
-use Rattle.std.proofs.Common.{◌≡◌, ℕ, ◌<◌, ◌≤◌, ◌⊎◌, nat_lt, length, sym, ap, subst, ◌∙◌, inl, inr, arith, le_trans}
+use Rattle.std.proofs.Common.{◌≡◌, ℕ, ◌<◌, ◌≤◌, ◌⊎◌, nat_lt, Option, length, sym, ap, subst, ◌∙◌, inl, inr, arith, le_trans}
 use Rattle.std.proofs.lemmas.Bool.{cond_both, ltb-true}
 use Rattle.craft_base.specs.Shape.{Shape}
-use Rattle.entry_frames.specs.declared.role.Role.TheVariants.{Leader}
+use Rattle.entry_frames.specs.declared.role.Role.TheVariants.{Follower, Leader}
 use Rattle.world_model.specs.Nodes.{Node}
 use Rattle.world_model.specs.Rules.Acts.{Act, followed_by, stays}
 use Rattle.world_model.specs.Rules.Applying.{act_of_applying, act_of_commit}
@@ -18,7 +18,7 @@ use Rattle.protocol.specs.Counting.{put}
 use Rattle.protocol.proofs.Counting.{put_same}
 use Rattle.protocol.proofs.Runs.{moves_trans, sound_reached}
 use Rattle.bridge.specs.Views.{log_seen, role_seen}
-use Rattle.bridge.specs.Agreement.{NodeAgrees}
+use Rattle.bridge.specs.Agreement.{NodeAgrees, PagesAgree}
 use Rattle.bridge.specs.Bridges.{ActBridged, OwnMoves}
 use Rattle.bridge.proofs.Acknowledging.{acknowledged, acknowledged_agrees, acknowledged_reach, acknowledged_whole, acknowledges}
 use Rattle.bridge.proofs.Committing.{IsCounted, new_counted}
@@ -27,6 +27,7 @@ use Rattle.bridge.proofs.Knowing.{enough_counted}
 use Rattle.bridge.proofs.Steps.{moved_then, own_move, own_none, own_then, reached_grows, sends_none}
 use Rattle.bridge.proofs.Views.{length_seen, term_at_seen}
 use Rattle.bridge.proofs.Rules.Say.{leading_log}
+use Rattle.bridge.proofs.Starts.{pages_follower, pages_leader}
 
 -- the commit index grows to that one, or it is there already
 pub grows_or_stays :
@@ -39,9 +40,9 @@ grows_or_stays n index P grown same =
 -- a node that committed up to an index agrees with a history in which its member did, whatever was decided there
 commit_agrees :
     {shape : Shape} {g : protocol.History} {member : ℕ} {n : Node} (a : NodeAgrees shape g member n) (index : ℕ) (decided : ℕ → ℕ) →
-    Grows g (record g { commit = put member index g.commit; decided = decided }) →
+    ((h : protocol.History) (cursor : Option ℕ) → PagesAgree n.volatile.role h n.durable.term cursor n.volatile.pages) → Grows g (record g { commit = put member index g.commit; decided = decided }) →
     NodeAgrees shape (record g { commit = put member index g.commit; decided = decided }) member (act_of_applying index n).node
-commit_agrees {g = g} {member = member} {n = n} a index decided grows = record {
+commit_agrees {g = g} {member = member} {n = n} a index decided pages grows = record {
   of_shape = a.of_shape;
   me = a.me;
   within = a.within;
@@ -52,6 +53,7 @@ commit_agrees {g = g} {member = member} {n = n} a index decided grows = record {
   role = a.role;
   heard = all_heard_stays grows n.durable.term member n.volatile.heard a.heard;
   knows = a.knows;
+  pages = pages _ _;
   needs = a.needs;
 }
 
@@ -86,20 +88,21 @@ module _
         subst (λ t. (index ≤ g.base t) ⊎ (index ≤ g.decided t)) (sym a.term) known,
       )
 
-  learnt_agrees : NodeAgrees shape (after g (Learn member index)) member (act_of_applying index n).node
-  learnt_agrees = commit_agrees a index g.decided (reached_grows reached learns.run)
+  learnt_agrees : n.volatile.role ≡ Follower → NodeAgrees shape (after g (Learn member index)) member (act_of_applying index n).node
+  learnt_agrees follows =
+      commit_agrees a index g.decided (λ h cursor. pages_follower h n.durable.term cursor n.volatile.pages follows) (reached_grows reached learns.run)
 
 -- a follower commits up to an index that the leader had, as far as the log is the leader's, and then a rule follows
 pub learn_then :
     {shape : Shape} {g : protocol.History} {member : ℕ} {n : Node} (reached : Reached shape.faults g) (a : NodeAgrees shape g member n)
-    (index : ℕ) (rule : Node → Act) → Agree (log_seen n.durable.log) (g.led n.durable.term) index →
+    (follows : n.volatile.role ≡ Follower) (index : ℕ) (rule : Node → Act) → Agree (log_seen n.durable.log) (g.led n.durable.term) index →
     (index ≤ g.base n.durable.term) ⊎ (index ≤ g.decided n.durable.term) →
     (Reached shape.faults (after g (Learn member index)) →
     NodeAgrees shape (after g (Learn member index)) member (act_of_applying index n).node →
     ActBridged shape (after g (Learn member index)) member (rule (act_of_applying index n).node)) →
     ActBridged shape g member (rule n) → ActBridged shape g member (followed_by (act_of_commit index n) rule)
-learn_then reached a index rule agrees known next same =
-    committed_then reached a index rule (λ more. (learns reached a index more agrees known, learnt_agrees reached a index more agrees known)) next same
+learn_then reached a follows index rule agrees known next same =
+    committed_then reached a index rule (λ more. (learns reached a index more agrees known, learnt_agrees reached a index more agrees known follows)) next same
 
 -- ---- at a leader
 
@@ -165,7 +168,9 @@ module _
     says_and_decides = own_then own_said decides
 
     decided_agrees : NodeAgrees shape (decided index) member (act_of_applying index n).node
-    decided_agrees = commit_agrees ready_agrees index (put (g.term member) index g.decided) (reached_grows ready_reached decides.run)
+    decided_agrees =
+        commit_agrees ready_agrees index (put (g.term member) index g.decided) (λ h cursor. pages_leader h n.durable.term cursor n.volatile.pages leads)
+        (reached_grows ready_reached decides.run)
 
 -- a leader commits what it counted enough members to hold, and then a rule follows
 pub decide_then :

@@ -15,6 +15,7 @@ use Rattle.bridge.specs.Bridges.{ActBridged}
 use Rattle.bridge.proofs.Facts.{hearing_agrees}
 use Rattle.bridge.proofs.Steps.{sends_one, unmoved, unmoved_stays}
 use Rattle.bridge.proofs.Rules.Applying.{decide_then}
+use Rattle.bridge.proofs.Starts.{leader_hearable}
 use Rattle.bridge.proofs.Rules.Say.{append_if_any_agrees, append_to_agrees}
 
 -- ---- what was heard is counted, and the member is sent what it lacks
@@ -44,7 +45,9 @@ module _
   matched_as_bridged Candidate prev count mask e told = unmoved_stays a
   matched_as_bridged Preparing prev count mask e told = unmoved_stays a
   matched_as_bridged Leader prev count mask e told =
-      progress_bridged reached (hearing_agrees (log_heard n sender (Matched prev count mask)) a (le_refl _) told) e sender told.apart
+      progress_bridged reached
+      (hearing_agrees (log_heard n sender (Matched prev count mask)) a (leader_hearable _ (log_heard n sender (Matched prev count mask)) e (le_refl _)) told)
+      e sender told.apart
 
   pub matched_bridged :
       (prev count mask : ℕ) → SaidAgrees g sender member n.durable.term (peers.Matched prev count mask) →
@@ -59,7 +62,8 @@ module _
   refused_as_bridged Preparing next e apart = unmoved_stays a
   refused_as_bridged Leader next e apart =
       let now = node_hearing (log_heard n sender (Refused next)) n in
-      let heard : NodeAgrees shape g member now = hearing_agrees (log_heard n sender (Refused next)) a (le_refl _) tt in
+      let heard : NodeAgrees shape g member now =
+      hearing_agrees (log_heard n sender (Refused next)) a (leader_hearable _ (log_heard n sender (Refused next)) e (le_refl _)) tt in
       unmoved (act_of_retry sender now) heard
       (sends_one g (append_to now sender) (append_to_agrees reached heard e sender (λ same. apart (sym same ∙ a.me))))
 

@@ -29,6 +29,7 @@ module _ {shape : Shape} {g : protocol.History} {member : ℕ} {n : Node} (a : N
     role = put_same member protocol.Follower g.role;
     heard = All-nil (HeardAgrees (after g (Raise member term)) term member);
     knows = tt;
+    pages = tt;
     needs = a.needs;
   }
 

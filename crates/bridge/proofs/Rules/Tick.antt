@@ -1,5 +1,5 @@
 -- Tick: a member that stands makes the move of that name; a member that waits or beats makes none.
-use Rattle.std.proofs.Common.{◌≡◌, ℕ, suc, ◌+◌, Some, refl, sym, ap, ◌∙◌, arith, length}
+use Rattle.std.proofs.Common.{◌≡◌, ℕ, suc, ◌+◌, Option, None, Some, refl, sym, ap, ◌∙◌, arith, length}
 use Rattle.std.proofs.lemmas.Bool.{cond_both}
 use Rattle.std.proofs.lemmas.List.Elements.{All-nil}
 use Rattle.craft_base.specs.Shape.{Shape}
@@ -9,18 +9,22 @@ use Rattle.entry_frames.specs.declared.role.Role.{Role}
 use Rattle.entry_frames.specs.declared.role.Role.TheVariants.{Follower, Candidate, Preparing, Leader}
 use Rattle.craft_base.specs.Knowledge.{Beat}
 use Rattle.world_model.specs.Nodes.{Node, node_hearing}
+use Rattle.world_model.specs.Ranges.{IsOfNoLog}
 use Rattle.world_model.specs.Rules.Acts.{sending, stays}
+use Rattle.world_model.specs.Rules.Prepare.{act_of_asking_all, cursor_at}
 use Rattle.world_model.specs.Rules.Say.{appends_to_others}
-use Rattle.world_model.specs.Rules.Tick.{act_of_candidacy, act_of_election, act_of_tick, act_of_tick_as, act_of_waiting, is_due, waiting_node}
+use Rattle.world_model.specs.Rules.Tick.{act_of_asking_again, act_of_candidacy, act_of_election, act_of_tick, act_of_tick_as, act_of_waiting, is_due, waiting_node}
+use Rattle.world_model.proofs.Ranges.Deciding.{cursor_within}
 use Rattle.protocol.specs.History as protocol
 use Rattle.protocol.specs.Logs.{last_term}
 use Rattle.protocol.specs.Moves.{Reached, Stand, after}
 use Rattle.protocol.proofs.Counting.{put_same, put_at_same}
-use Rattle.bridge.specs.Agreement.{AskAgrees, HeardAgrees, ItemWithin, NodeAgrees}
+use Rattle.bridge.specs.Agreement.{AskAgrees, HeardAgrees, NodeAgrees}
 use Rattle.bridge.specs.Bridges.{ActBridged}
 use Rattle.bridge.proofs.Facts.{hearing_agrees}
 use Rattle.bridge.proofs.Steps.{moved, own_move, sends_to_others, unmoved, unmoved_stays}
 use Rattle.bridge.proofs.Rules.Say.{appends_agree}
+use Rattle.bridge.proofs.Starts.{no_log_hearable}
 use Rattle.bridge.proofs.Views.{length_seen, last_term_seen}
 
 -- who stood, voted for itself and showed its log
@@ -42,7 +46,8 @@ module _ {shape : Shape} {g : protocol.History} {member : ℕ} {n : Node} (a : N
     commit = a.commit;
     role = put_same member protocol.Candidate g.role;
     heard = All-nil (HeardAgrees (after g (Stand member)) (n.durable.term + 1) member);
-    knows = All-nil (ItemWithin (length n.durable.log));
+    knows = All-nil IsOfNoLog;
+    pages = tt;
     needs = a.needs;
   }
 
@@ -69,7 +74,7 @@ module _ {shape : Shape} {g : protocol.History} {member : ℕ} {n : Node} (a : N
   waiting_agrees = assumption a
 
   beat_agrees : NodeAgrees shape g member (node_hearing Beat n)
-  beat_agrees = hearing_agrees Beat a tt tt
+  beat_agrees = hearing_agrees Beat a (no_log_hearable n.volatile.role (length n.durable.log) Beat tt) tt
 
 -- a leader that beats sends to each other member from where it lacks something, and makes no move
 beat_bridged :
@@ -80,12 +85,21 @@ beat_bridged {n = n} reached a leads =
     unmoved (sending (appends_to_others (node_hearing Beat n)) (stays (node_hearing Beat n))) (beat_agrees a)
     (appends_agree reached (beat_agrees a) leads)
 
+-- who prepares asks for what stands from an index on, and makes no move
+asking_bridged :
+    {shape : Shape} {g : protocol.History} {member : ℕ} {n : Node} (cursor : Option ℕ) → cursor_at n ≡ cursor → NodeAgrees shape g member n →
+    ActBridged shape g member (act_of_asking_again cursor n)
+asking_bridged None e a = unmoved_stays a
+asking_bridged {g = g} {n = n} (Some cursor) e a =
+    let within = cursor_within n.durable.commit n.durable.log cursor e in
+    unmoved (act_of_asking_all cursor n) a (sends_to_others g n (peers.Ask cursor) (λ receiver. omega (arith, within.0)))
+
 tick_as_bridged :
     {shape : Shape} {g : protocol.History} {member : ℕ} {n : Node} (role : Role) (word : ℕ) → Reached shape.faults g → NodeAgrees shape g member n →
     n.volatile.role ≡ role → ActBridged shape g member (act_of_tick_as role word n)
 tick_as_bridged Follower word reached a e = waiting_bridged (waiting_agrees a) word
 tick_as_bridged Candidate word reached a e = waiting_bridged (waiting_agrees a) word
-tick_as_bridged Preparing word reached a e = unmoved_stays (beat_agrees a)
+tick_as_bridged {n = n} Preparing word reached a e = asking_bridged (cursor_at n) refl (beat_agrees a)
 tick_as_bridged Leader word reached a e = beat_bridged reached a e
 
 pub tick_bridged :

@@ -6,6 +6,7 @@ use Rattle.craft_base.specs.Shape.{Shape}
 use Rattle.entry_frames.specs.declared.peer.Peer.TheVariants as peers
 use Rattle.world_model.specs.Nodes.{Node}
 use Rattle.world_model.specs.Rules.Acts.{keeping, message_of}
+use Rattle.world_model.specs.Rules.Prepare.{cursor_at}
 use Rattle.world_model.specs.Rules.Vote.{act_of_grant, act_of_vote_from, act_of_vote_refusal, act_of_vote_request, is_free_for, is_grantor}
 use Rattle.protocol.specs.History.{History}
 use Rattle.protocol.specs.Logs.{last_term}
@@ -14,7 +15,7 @@ use Rattle.protocol.specs.Growth.{Grows}
 use Rattle.protocol.proofs.Counting.{put_same, put_at_same}
 use Rattle.bridge.specs.Agreement.{AskAgrees, MessageAgrees, NodeAgrees}
 use Rattle.bridge.specs.Bridges.{ActBridged, OwnMoves}
-use Rattle.bridge.proofs.Facts.{all_heard_stays}
+use Rattle.bridge.proofs.Facts.{all_heard_stays, pages_stay}
 use Rattle.bridge.proofs.Steps.{moved, own_move, reached_grows, sends_one, unmoved}
 use Rattle.bridge.proofs.Views.{length_seen, last_term_seen, up_to_date}
 use Rattle.bridge.proofs.Rules.Terms.{refused_vote_agrees}
@@ -54,6 +55,7 @@ module _
     role = a.role;
     heard = all_heard_stays x n.durable.term member n.volatile.heard a.heard;
     knows = a.knows;
+    pages = pages_stay x n.volatile.role n.durable.term (cursor_at n) n.volatile.pages a.pages;
     needs = a.needs;
   }
   vote_agrees (Some voted) is free x = record {
@@ -67,6 +69,7 @@ module _
     role = a.role;
     heard = all_heard_stays x n.durable.term member n.volatile.heard a.heard;
     knows = a.knows;
+    pages = pages_stay x n.volatile.role n.durable.term (cursor_at n) n.volatile.pages a.pages;
     needs = a.needs;
   }
 

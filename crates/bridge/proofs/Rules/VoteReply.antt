@@ -1,6 +1,6 @@
 -- VoteReply: a candidate that has won makes the moves of Prepare, the first of which is allowed since each vote that it counts was cast;
 -- any other member makes none.
-use Rattle.std.proofs.Common.{◌≡◌, ◌≢◌, ℕ, ◌<◌, ◌≤◌, le_refl, le_trans, true, Bool, List, [], ◌∷◌, Some, refl, sym, ap, ◌∙◌, inl, inr, arith}
+use Rattle.std.proofs.Common.{◌≡◌, ◌≢◌, ℕ, ◌<◌, ◌≤◌, le_trans, true, Bool, List, [], ◌∷◌, Some, refl, sym, ap, ◌∙◌, inl, inr, arith}
 use Rattle.std.specs.List.{All}
 use Rattle.std.proofs.lemmas.Bool.{cond_both, and_parts, or_cases, eqb-true, leb-true, true≢false, false_from_ne_true}
 use Rattle.std.proofs.lemmas.List.Elements.{All-head, All-tail}
@@ -9,10 +9,11 @@ use Rattle.craft_base.specs.Knowledge as known
 use Rattle.entry_frames.specs.declared.role.Role.{Role}
 use Rattle.entry_frames.specs.declared.role.Role.TheVariants.{Follower, Candidate, Preparing, Leader}
 use Rattle.craft_base.specs.Knowledge.{Heard, Told, Beat, From, Voted, Matched, Refused, Answered}
-use Rattle.world_model.specs.Nodes.{Node}
+use Rattle.world_model.specs.Nodes.{Node, node_hearing}
 use Rattle.world_model.specs.Rules.Acts.{stays}
 use Rattle.world_model.specs.Rules.VoteReply.{act_of_count, act_of_vote_reply, act_of_vote_reply_as, has_won, vote_heard}
-use Rattle.world_model.specs.Rules.Prepare.{act_of_leading}
+use Rattle.world_model.specs.Rules.Prepare.{act_of_winning}
+use Rattle.world_model.specs.Traces.{Proposal}
 use Rattle.protocol.specs.History as protocol
 use Rattle.protocol.specs.Words.{is_for, votes}
 use Rattle.protocol.specs.Moves.{Win, Allowed, Reached}
@@ -24,7 +25,9 @@ use Rattle.bridge.specs.Bridges.{ActBridged}
 use Rattle.bridge.proofs.Counting.{count_members, count_one_more}
 use Rattle.bridge.proofs.Facts.{hearing_agrees}
 use Rattle.bridge.proofs.Steps.{unmoved_stays}
-use Rattle.bridge.proofs.Rules.Prepare.{leading_bridged}
+use Rattle.bridge.specs.Traced.{AllStand, holder}
+use Rattle.bridge.proofs.Starts.{no_log_hearable}
+use Rattle.bridge.proofs.Rules.Prepare.{winning_bridged}
 
 -- a granted vote that was heard was cast, by another member
 heard_vote :
@@ -74,22 +77,25 @@ module _
         votes_counted shape g member n.durable.term n.volatile.heard a.within (rw (← a.term) own) a.heard in
         (stands, rw a.term (le_trans majority counted))
 
-    count_bridged : IsShape shape → n.volatile.role ≡ Candidate → ActBridged shape g member (act_of_count n)
-    count_bridged is role =
-        cond_both (has_won n) (act_of_leading n) (stays n) (ActBridged shape g member)
-        (λ won. leading_bridged reached is a role (won_allowed role won)) (λ waits. unmoved_stays a)
+    count_bridged :
+        IsShape shape → n.volatile.role ≡ Candidate → (book : List Proposal) → AllStand (holder shape member) book 1 n.durable.log →
+        ActBridged shape g member (act_of_count n)
+    count_bridged is role book stand =
+        cond_both (has_won n) (act_of_winning n) (stays n) (ActBridged shape g member)
+        (λ won. winning_bridged reached a role (won_allowed role won) is book stand) (λ waits. unmoved_stays a)
 
-vote_reply_as_bridged :
-    {shape : Shape} {g : protocol.History} {member : ℕ} {n : Node} (role : Role) (sender : ℕ) (granted : Bool) →
-    Reached shape.faults g → IsShape shape → NodeAgrees shape g member n → HeardAgrees g n.durable.term member (vote_heard n sender granted) →
-    n.volatile.role ≡ role → ActBridged shape g member (act_of_vote_reply_as role n sender granted)
-vote_reply_as_bridged Follower sender granted reached is a told e = unmoved_stays a
-vote_reply_as_bridged {n = n} Candidate sender granted reached is a told e = count_bridged reached (hearing_agrees (vote_heard n sender granted) a (le_refl _) told) is e
-vote_reply_as_bridged {n = n} Preparing sender granted reached is a told e = unmoved_stays (hearing_agrees (vote_heard n sender granted) a (le_refl _) told)
-vote_reply_as_bridged {n = n} Leader sender granted reached is a told e = unmoved_stays (hearing_agrees (vote_heard n sender granted) a (le_refl _) told)
+module _
+    {shape : Shape} {g : protocol.History} {member : ℕ} {n : Node} (sender : ℕ) (granted : Bool) (reached : Reached shape.faults g) (is : IsShape shape)
+    (a : NodeAgrees shape g member n) (told : HeardAgrees g n.durable.term member (vote_heard n sender granted))
+    (book : List Proposal) (stand : AllStand (holder shape member) book 1 n.durable.log) where
+  vote_heard_agrees : NodeAgrees shape g member (node_hearing (vote_heard n sender granted) n)
+  vote_heard_agrees = hearing_agrees (vote_heard n sender granted) a (no_log_hearable n.volatile.role _ (vote_heard n sender granted) tt) told
 
-pub vote_reply_bridged :
-    {shape : Shape} {g : protocol.History} {member : ℕ} {n : Node} (sender : ℕ) (granted : Bool) →
-    Reached shape.faults g → IsShape shape → NodeAgrees shape g member n → HeardAgrees g n.durable.term member (vote_heard n sender granted) →
-    ActBridged shape g member (act_of_vote_reply n sender granted)
-vote_reply_bridged {n = n} sender granted reached is a told = vote_reply_as_bridged n.volatile.role sender granted reached is a told refl
+  vote_reply_as_bridged : (role : Role) → n.volatile.role ≡ role → ActBridged shape g member (act_of_vote_reply_as role n sender granted)
+  vote_reply_as_bridged Follower e = unmoved_stays a
+  vote_reply_as_bridged Candidate e = count_bridged reached vote_heard_agrees is e book stand
+  vote_reply_as_bridged Preparing e = unmoved_stays vote_heard_agrees
+  vote_reply_as_bridged Leader e = unmoved_stays vote_heard_agrees
+
+  pub vote_reply_bridged : ActBridged shape g member (act_of_vote_reply n sender granted)
+  vote_reply_bridged = vote_reply_as_bridged n.volatile.role refl

@@ -19,7 +19,7 @@ use full_append::{Plan, take_append};
 use peer_frames::{MessageView, Peer, Role};
 
 impl Act {
-    ghost use Rattle.node_core.specs.Acting.{Acts, IsNode, IsRangedMember, MayRecord, Recorded};
+    ghost use Rattle.node_core.specs.Acting.{Acts, IsFree, IsNode, IsRangedMember, MayRecord, Recorded};
     ghost use Rattle.world_model.specs.Nodes.{Node};
     ghost use Rattle.world_model.specs.Rules.Acts.{message_of, sending, stays};
 
@@ -56,6 +56,7 @@ impl Act {
         requires few { length (entries_of (body_of append.now.frame)) ≤ most_entries }
         requires may { MayTake self.member append.now.frame }
         requires stands { (n : Node) × IsNode self.member n }
+        requires free { IsFree self.member }
         ensures { IfOk result (Acts (heard_act append.now.frame) self) }
     {
         match plan {
@@ -88,6 +89,7 @@ impl Act {
         requires kind { kind_of append.now.frame ≡ kinds.Peer peer_kinds.Append }
         requires places { All (IsPlaceOf append.now.frame) wholes.now }
         requires may { MayRecord self.member (records_planned append.now.frame cut wholes.now first_new) }
+        requires free { IsFree self.member }
         ensures { IfOk result (Recorded (records_planned append.now.frame cut wholes.now first_new) self) }
     {
         let act = self.complete(append, wholes)?;
@@ -100,6 +102,7 @@ impl Act {
     fn complete(self, append: &MessageView<'_>, wholes: &[u64]) -> Result<Act, OutOfMemory>
         requires places { All (IsPlaceOf append.now.frame) wholes.now }
         requires may { MayRecord self.member (map (value_record append.now.frame) wholes.now) }
+        requires free { IsFree self.member }
         ensures { IfOk result (Recorded (map (value_record append.now.frame) wholes.now) self) }
     {
         let mut act = self;
@@ -113,6 +116,7 @@ impl Act {
     fn complete_one(self, append: &MessageView<'_>, index: u64) -> Result<Act, OutOfMemory>
         requires place { IsPlaceOf append.now.frame index }
         requires may { MayRecord self.member (value_record append.now.frame index ∷ []) }
+        requires free { IsFree self.member }
         ensures { IfOk result (Recorded (value_record append.now.frame index ∷ []) self) }
     {
         let place = index - append.prev() - 1;
@@ -126,8 +130,9 @@ impl Act {
     }
 
     /// Removes the entries from an index on, where there is one.
-    fn cut(self, cut: Option<u64>) -> Result<Act, OutOfMemory>
-        requires { MayRecord self.member (map Cut (option_to_list cut)) }
+    pub(crate) fn cut(self, cut: Option<u64>) -> Result<Act, OutOfMemory>
+        requires may { MayRecord self.member (map Cut (option_to_list cut)) }
+        requires free { IsFree self.member }
         ensures { IfOk result (Recorded (map Cut (option_to_list cut)) self) }
     {
         match cut {
@@ -141,6 +146,7 @@ impl Act {
         requires shape { append.now.shape ≡ self.member.store.shape }
         requires kind { kind_of append.now.frame ≡ kinds.Peer peer_kinds.Append }
         requires may { MayRecord self.member (records_added append.now.frame first_new) }
+        requires free { IsFree self.member }
         ensures { IfOk result (Recorded (records_added append.now.frame first_new) self) }
     {
         let mut act = self;
@@ -155,6 +161,7 @@ impl Act {
         requires within { number < length (entries_of (body_of append.now.frame)) }
         requires shape { append.now.shape ≡ self.member.store.shape }
         requires may { MayRecord self.member (records_added append.now.frame number) }
+        requires free { IsFree self.member }
         ensures { IfOk result (λ after. (e : Entry) → slice_get (entries_of (body_of append.now.frame)) number ≡ Some e → Recorded (Add e ∷ []) self after) }
     {
         match append.entry(number) {
@@ -178,11 +185,12 @@ impl Act {
 }
 
 impl Member {
-    ghost use Rattle.node_core.specs.Acting.{Becomes};
+    ghost use Rattle.node_core.specs.Acting.{Becomes, IsFree};
 
-    /// It is a follower of that leader, of which it has just heard.
-    fn hear_leader(&mut self, leader: MemberId)
-        ensures { Becomes (λ n. record n { volatile = following leader n }) self.old self.new }
+    /// It is a follower of that member, which has won its term and of which it has just heard.
+    pub(crate) fn hear_leader(&mut self, leader: MemberId)
+        ensures becomes { Becomes (λ n. record n { volatile = following leader n }) self.old self.new }
+        ensures free { IsFree self.new }
     {
         self.role = Role::Follower;
         self.hint = Some(leader);

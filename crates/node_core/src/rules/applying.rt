@@ -21,13 +21,14 @@ use std::alloc::Global;
 use world_model::{Called, ClientReply};
 
 impl Act {
-    ghost use Rattle.node_core.specs.Acting.{Acts};
+    ghost use Rattle.node_core.specs.Acting.{Acts, IsFree};
     ghost use Rattle.node_core.specs.Serving.{Serves};
 
     /// Commits the log up to an index, where that is above the commit index. The only error is want of memory.
     pub(crate) fn commit_to(self, index: u64) -> Result<Act, OutOfMemory>
         requires within { index ≤ length self.member.store.kept.log }
         requires served { IsServed self.member }
+        requires free { IsFree self.member }
         ensures { IfOk result (Acts (rule.act_of_commit index) self) }
     {
         if index <= self.member.store.commit() {
@@ -41,6 +42,7 @@ impl Act {
         requires above { self.member.store.kept.commit < index }
         requires within { index ≤ length self.member.store.kept.log }
         requires served { IsServed self.member }
+        requires free { IsFree self.member }
         ensures { IfOk result (Acts (rule.act_of_applying index) self) }
     {
         let act = self.serve(index)?;
@@ -122,6 +124,7 @@ impl Member {
                 quiet: self.quiet,
                 hint: self.hint,
                 heard: self.heard,
+                prep: self.prep,
                 service,
                 calls: self.calls,
             },

@@ -110,6 +110,7 @@ impl Member {
             quiet: self.quiet,
             hint: self.hint,
             heard: self.heard.matched(sender, prev, count, mask, last)?,
+            prep: self.prep,
             service: self.service,
             calls: self.calls,
         })

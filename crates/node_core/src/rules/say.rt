@@ -1,21 +1,19 @@
 //! Say: what a member sends, and to whom.
-ghost use Rattle.std.specs.Prelude.{◌≡◌, ◌+◌, ◌-◌, ◌≤◌, ◌<◌, ◌==◌, ◌++◌, ◌∷◌, [], length, not, if◌then◌else◌, None, Some, IfOk, OnOk};
-ghost use Rattle.craft_base.specs.Knowledge.{held_form};
+ghost use Rattle.std.specs.Prelude.{◌≡◌, ◌+◌, ◌-◌, ◌≤◌, ◌<◌, ◌==◌, ◌++◌, ◌∷◌, [], length, if◌then◌else◌, None, Some, IfOk, OnOk};
 ghost use Rattle.craft_base.specs.Shape.{members_of};
 ghost use Rattle.entry_frames.specs.Logs.{last_index, last_term, term_at};
 ghost use Rattle.entry_frames.specs.declared.peer.Peer.TheVariants.{Append, Vote};
 ghost use Rattle.node_core.specs.Acting.{IsNode, MaySay};
 ghost use Rattle.world_model.specs.Nodes.{Node};
-ghost use Rattle.world_model.specs.Quorums.{is_held_whole};
 ghost use Rattle.world_model.specs.Rules.Acts.{message_of};
 ghost use Rattle.world_model.specs.Rules.Say as rule;
 ghost use Rattle.world_model.specs.Rules.Tick.{vote_requests};
 
 use crate::act::Act;
 use crate::member::Member;
-use craft_base::{Held, Known, MemberId, OutOfMemory};
+use coded_append::{Mode, coded_batch, mode, start_for, whole_batch};
+use craft_base::{Known, MemberId, OutOfMemory};
 use entry_frames::{Batch, LogView};
-use full_append::whole_batch;
 use peer_frames::{Message, Peer};
 
 impl Act {
@@ -64,7 +62,7 @@ impl Act {
         ensures { IfOk result (Acts (λ n. sending (rule.append_if_any n receiver) (stays n)) self) }
     {
         let start = self.member.start_for(receiver);
-        let entries = self.member.batch_from(start)?;
+        let entries = self.member.batch_for(receiver, start)?;
         if entries.len() == 0 {
             return Ok(self);
         }
@@ -139,17 +137,20 @@ impl Member {
         ensures { IfOk result (λ message. (n : Node) → IsNode self.now n → message ≡ rule.append_to n receiver) }
     {
         let start = self.start_for(receiver);
-        let entries = self.batch_from(start)?;
+        let entries = self.batch_for(receiver, start)?;
         Ok(self.says(self.append_of(start, entries), receiver))
     }
 
-    /// The entries from an index on that have room in a message.
-    fn batch_from(&self, start: u64) -> Result<Batch, OutOfMemory>
+    /// The entries from an index on that a member is sent in one message.
+    fn batch_for(&self, receiver: MemberId, start: u64) -> Result<Batch, OutOfMemory>
         requires least { 1 ≤ start }
         requires most { start ≤ length self.now.store.kept.log + 1 }
-        ensures { IfOk result (λ batch. batch ≡ rule.whole_batch self.now.store.shape.need self.now.store.kept.log start) }
+        ensures { IfOk result (λ batch. (n : Node) → IsNode self.now n → batch ≡ rule.batch_for n receiver start) }
     {
-        whole_batch(self.alloc, &self.store, start)
+        match self.mode() {
+            Mode::Coded => coded_batch(self.alloc, &self.store, &self.shape, receiver, start),
+            Mode::Complete => whole_batch(self.alloc, &self.store, start),
+        }
     }
 
     /// An Append of these entries, the first of which has that index.
@@ -167,37 +168,18 @@ impl Member {
         }
     }
 
-    /// From which index on entries go to a member: not behind the first that it isn't known to hold whole.
+    /// From which index on entries go to a member.
     fn start_for(&self, member: MemberId) -> u64
         requires { MaySay self.now }
         ensures { (n : Node) → IsNode self.now n → result ≡ rule.start_of n member }
     {
-        let next = self.heard.next_of(member);
-        match self.first_lacking(member) {
-            Some(index) => next.min(index),
-            None => next,
-        }
+        start_for(&self.heard, &self.store, self.mode(), member)
     }
 
-    /// The first index that isn't committed at which a member isn't known to hold the entry whole.
-    fn first_lacking(&self, member: MemberId) -> Option<u64>
-        requires { self.now.heard.window.settled ≤ self.now.store.kept.commit }
-        ensures { (n : Node) → IsNode self.now n → result ≡ rule.first_lacking member n.durable.commit n.durable.log n.volatile.heard }
+    /// In which mode it replicates, by how many others were heard of late.
+    fn mode(&self) -> Mode
+        ensures { (n : Node) → IsNode self.now n → result ≡ rule.mode_of_leader n }
     {
-        for before in self.store.commit()..self.store.last() {
-            let index = before + 1;
-            if self.may_lack(member, index) {
-                return Some(index);
-            }
-        }
-        None
-    }
-
-    /// Whether a member isn't known to hold the entry at an index whole.
-    fn may_lack(&self, member: MemberId, index: u64) -> bool
-        requires { self.now.heard.window.settled < index }
-        ensures { (n : Node) → IsNode self.now n → result ≡ not (is_held_whole (held_form member index n.volatile.heard)) }
-    {
-        self.heard.form_at(member, index) != Held::Whole
+        mode(self.heard.fresh_count(), &self.shape)
     }
 }

@@ -1,8 +1,8 @@
 //! Tick: a member that has heard nothing for long enough stands for election; a leader sends to all others.
-ghost use Rattle.std.specs.Prelude.{◌<◌, [], None, IfOk, OnOk};
+ghost use Rattle.std.specs.Prelude.{◌≡◌, ◌<◌, [], None, IfOk, OnOk};
 ghost use Rattle.craft_base.specs.Knowledge.{Beat};
 ghost use Rattle.entry_frames.specs.Limits.{greatest};
-ghost use Rattle.entry_frames.specs.declared.role.Role.TheVariants.{Candidate};
+ghost use Rattle.entry_frames.specs.declared.role.Role.TheVariants.{Candidate, Preparing};
 
 use crate::act::Act;
 use crate::member::Member;
@@ -17,7 +17,8 @@ impl Act {
     ghost use Rattle.node_core.specs.Acting.{Acts, IsRangedMember};
     ghost use Rattle.world_model.specs.Nodes.{node_hearing};
     ghost use Rattle.world_model.specs.Rules.Acts.{stays};
-    ghost use Rattle.world_model.specs.Rules.Tick.{act_of_candidacy, act_of_tick, act_of_waiting, waiting_node};
+    ghost use Rattle.world_model.specs.Rules.Prepare.{cursor_at};
+    ghost use Rattle.world_model.specs.Rules.Tick.{act_of_asking_again, act_of_candidacy, act_of_tick, act_of_waiting, waiting_node};
 
     /// Time passes. `word` chooses how many quiet ticks are enough.
     pub(crate) fn tick(self, word: u64) -> Result<Act, OutOfMemory>
@@ -26,18 +27,30 @@ impl Act {
     {
         match self.member.role {
             Role::Follower | Role::Candidate => self.wait(word),
-            Role::Preparing => Ok(self.beat()),
+            Role::Preparing => self.beat().ask_again(),
             Role::Leader => self.beat().append_to_others(),
         }
     }
 
     /// Counts a beat, by which it tells who answered since the one before.
     fn beat(self) -> Act
-        ensures { Acts (λ n. stays (node_hearing Beat n)) self result }
+        ensures acts { Acts (λ n. stays (node_hearing Beat n)) self result }
+        ensures rest { result.member ≡ record self.member { heard = result.member.heard } }
     {
         let mut act = self;
         act.member.heard.beat();
         act
+    }
+
+    /// Asks all others again what they hold, from the index on that is to be decided next.
+    fn ask_again(self) -> Result<Act, OutOfMemory>
+        requires { self.member.role ≡ Preparing }
+        ensures { IfOk result (Acts (λ n. act_of_asking_again (cursor_at n) n) self) }
+    {
+        match self.member.cursor() {
+            Some(cursor) => self.ask_all(cursor),
+            None => Ok(self),
+        }
     }
 
     /// Counts one more quiet tick, and stands for election where it has waited long enough and a higher term is left.

@@ -21,7 +21,7 @@ impl Act {
     {
         match self.member.role {
             Role::Follower => Ok(self),
-            Role::Candidate => self.hear_vote(sender, granted).lead_if_won(),
+            Role::Candidate => self.hear_vote(sender, granted).prepare_if_won(),
             Role::Preparing | Role::Leader => Ok(self.hear_vote(sender, granted)),
         }
     }
@@ -36,8 +36,8 @@ impl Act {
         act
     }
 
-    /// Leads the term where it has won.
-    fn lead_if_won(self) -> Result<Act, OutOfMemory>
+    /// Prepares to lead the term where it has won.
+    fn prepare_if_won(self) -> Result<Act, OutOfMemory>
         requires ranged { IsRangedMember self.member }
         requires candidate { self.member.role ≡ Candidate }
         requires begun { 1 ≤ self.member.store.kept.term }
@@ -46,7 +46,7 @@ impl Act {
         if !self.member.has_won() {
             return Ok(self);
         }
-        self.lead()
+        self.prepare()
     }
 }
 

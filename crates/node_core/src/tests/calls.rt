@@ -13,6 +13,7 @@ use std::test::Fail;
 use test_text::bytes_of;
 
 // The empty entry has index 1. A put is sent to member 1 at once, since that has all before it; member 2 is sent it with the next beat.
+// Two members are healthy, so it goes as a fragment, one of which makes the value.
 #[test]
 fn a_put_is_answered_when_it_is_committed(rt: HostRuntime) -> Result<(), Fail> {
     let alloc = rt.alloc();
@@ -21,7 +22,7 @@ fn a_put_is_answered_when_it_is_committed(rt: HostRuntime) -> Result<(), Fail> {
     // the entry, with the client's number, the request's, the key and the value
     let group =
         "0000000000000022 02 01 01 0000000000000001 0000000000000007 0000000000000009 01 61 00000001 78 00";
-    leaves(&rt, alloc, &turned, group, &["send 0 1 1 append 1 1 1 w"])?;
+    leaves(&rt, alloc, &turned, group, &["send 0 1 1 append 1 1 1 p"])?;
     let (core, turned) = matched(alloc, core, 1, 1, 1)?;
     tells(&rt, alloc, &turned, &["commit 2", "reply 5 7 9 done 2"])?;
     // what it is asked again it answers at once, and a smaller number is old

@@ -63,7 +63,7 @@ fn noop(alloc: Global) -> Result<Vec<u8>, Fail> {
 }
 
 /// The log with the same entry so many times more.
-fn longer(store: LogStore, entry: &EntryView<'_>, count: u64) -> Result<LogStore, Fail>
+pub(crate) fn longer(store: LogStore, entry: &EntryView<'_>, count: u64) -> Result<LogStore, Fail>
     requires { entry.now.k ≡ store.shape.need }
     ensures { IfOk result (λ after. after.shape ≡ store.shape) }
 {
@@ -94,7 +94,7 @@ fn committed(store: LogStore, index: u64) -> Result<LogStore, Fail>
 }
 
 /// An empty log in term 1.
-fn begun(alloc: Global, shape: &Shape) -> LogStore
+pub(crate) fn begun(alloc: Global, shape: &Shape) -> LogStore
     ensures { result.shape ≡ shape.now }
 {
     let mut store = LogStore::new(alloc, shape);
@@ -103,7 +103,7 @@ fn begun(alloc: Global, shape: &Shape) -> LogStore
 }
 
 /// A log of three members with so many empty entries.
-fn with_noops(alloc: Global, count: u64) -> Result<LogStore, Fail>
+pub(crate) fn with_noops(alloc: Global, count: u64) -> Result<LogStore, Fail>
     ensures { IfOk result (λ store. store.shape ≡ record { faults = 1; need = 1 }) }
 {
     let shape = Shape::new(1, 1)?;

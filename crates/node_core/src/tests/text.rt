@@ -37,7 +37,11 @@ fn said_text(alloc: Global, body: &Peer) -> Result<String, Fail> {
         }
         Peer::Matched { prev, count, mask } => format!(in alloc; "matched {prev} {count} {mask}")?,
         Peer::Refused { next } => format!(in alloc; "refused {next}")?,
-        Peer::Ask { .. } | Peer::Answer { .. } => return Err("no rule sends it".into()),
+        Peer::Answer { start, last, slots } => {
+            let forms = forms_text(alloc, slots)?;
+            format!(in alloc; "answer {start} {last} {forms}")?
+        }
+        Peer::Ask { start } => format!(in alloc; "ask {start}")?,
     })
 }
 
@@ -56,7 +60,7 @@ fn reply_text(alloc: Global, reply: &Reply) -> Result<String, Fail> {
         Reply::Elsewhere(None) => format!(in alloc; "elsewhere")?,
         Reply::Busy => format!(in alloc; "busy")?,
         Reply::Full => format!(in alloc; "full")?,
-        Reply::Preparing => return Err("no rule tells it".into()),
+        Reply::Preparing => format!(in alloc; "preparing")?,
     })
 }
 
@@ -64,6 +68,8 @@ fn reply_text(alloc: Global, reply: &Reply) -> Result<String, Fail> {
 pub(crate) fn told_text(alloc: Global, output: &Output) -> Result<String, Fail> {
     Ok(match output {
         Output::Role { role, term } => format!(in alloc; "role {role:?} {term}")?,
+        Output::Cut { index, prep } => format!(in alloc; "cut {index} {prep}")?,
+        Output::Whole { index } => format!(in alloc; "whole {index}")?,
         Output::Commit { index } => format!(in alloc; "commit {index}")?,
         Output::Reply {
             place,

@@ -1,6 +1,6 @@
 -- What rules share: a node that stays in range, records that can be applied and are spelled, and what it says to one member or to
 -- all others.
-use Rattle.std.proofs.Common.{◌≡◌, ◌≢◌, ℕ, ◌<◌, ◌≤◌, ◌==◌, true, not, List, [], ◌∷◌, length, map, sym, subst, ◌∙◌, arith}
+use Rattle.std.proofs.Common.{◌≡◌, ◌≢◌, ℕ, ◌<◌, ◌≤◌, ◌==◌, true, not, Bool, List, [], ◌∷◌, filter, length, map, sym, subst, ◌∙◌, arith}
 use Rattle.std.specs.List.{All}
 use Rattle.std.proofs.lemmas.Bool.{not-true, eqb-false}
 use Rattle.std.proofs.lemmas.List.Elements.{All-nil, All-cons, All-append, All-filter, All-from_get_or, All-map, All-weaker, filter_passes}
@@ -18,7 +18,7 @@ use Rattle.entry_frames.specs.declared.peer.Peer.{Peer}
 use Rattle.entry_frames.proofs.Durable.{can_apply-append}
 use Rattle.entry_frames.proofs.Stored.{records_kept}
 use Rattle.world_model.specs.Nodes.{Node, Volatile}
-use Rattle.world_model.specs.Ranges.{ClientsInRange, IsMember, NodeInRange, HasSpelling, KnowsInRange, ReplyHasSpelling}
+use Rattle.world_model.specs.Ranges.{ClientsInRange, IsMember, NodeInRange, HasSpelling, KnowsInRange, PageInRange, ReplyHasSpelling}
 use Rattle.world_model.specs.Rules.Acts.{Act, IsRecorded, answering, followed_by, keeping, message_of, messages_to_others, others, recording_all, sending, stays}
 use Rattle.world_model.specs.declared.call.ClientReply.{ClientReply}
 use Rattle.world_model.proofs.Frames.{message_fits}
@@ -36,8 +36,16 @@ module _ {shape : Shape} {member : ℕ} {n : Node} (a : NodeInRange shape member
   -- what a crash loses has no range but in what is known and in what clients may be told
   pub in_volatile :
       (v : Volatile) → ClientsInRange shape v.hint v.calls → KnowsInRange v.role (length n.durable.log) v.first v.heard →
-      NodeInRange shape member (record n { volatile = v })
-  in_volatile v clients knows = record { of_shape = a.of_shape; me = a.me; is_member = a.is_member; durable = a.durable; clients = clients; knows = knows }
+      All (PageInRange shape.need) v.pages → NodeInRange shape member (record n { volatile = v })
+  in_volatile v clients knows pages = record {
+    of_shape = a.of_shape;
+    me = a.me;
+    is_member = a.is_member;
+    durable = a.durable;
+    clients = clients;
+    knows = knows;
+    pages = pages;
+  }
 
   pub stays_in_range : ActInRange shape member n (stays n)
   stays_in_range = record { node = a; applies = tt; written = tt; replies = All-nil (ReplyHasSpelling shape member); sends = All-nil (HasSpelling shape) }
@@ -45,8 +53,9 @@ module _ {shape : Shape} {member : ℕ} {n : Node} (a : NodeInRange shape member
   -- what records leave, with that as what a crash loses
   pub enters_in_range :
       (records : List Record) (v : Volatile) → CanApplyAll shape n.durable records → HaveSpellings shape.need records → ClientsInRange shape v.hint v.calls →
-      KnowsInRange v.role (length (after n.durable records).log) v.first v.heard → ActInRange shape member n (keeping v (recording_all records (stays n)))
-  enters_in_range records v applies written clients knows = record {
+      KnowsInRange v.role (length (after n.durable records).log) v.first v.heard → All (PageInRange shape.need) v.pages →
+      ActInRange shape member n (keeping v (recording_all records (stays n)))
+  enters_in_range records v applies written clients knows pages = record {
     node = record {
       of_shape = a.of_shape;
       me = a.me;
@@ -54,6 +63,7 @@ module _ {shape : Shape} {member : ℕ} {n : Node} (a : NodeInRange shape member
       durable = records_kept shape n.durable records a.durable applies written;
       clients = clients;
       knows = knows;
+      pages = pages;
     };
     applies = applies;
     written = written;
@@ -64,14 +74,14 @@ module _ {shape : Shape} {member : ℕ} {n : Node} (a : NodeInRange shape member
   pub records_in_range :
       (records : List Record) → CanApplyAll shape n.durable records → HaveSpellings shape.need records →
       KnowsInRange n.volatile.role (length (after n.durable records).log) n.volatile.first n.volatile.heard → ActInRange shape member n (recording_all records (stays n))
-  records_in_range records applies written knows = enters_in_range records n.volatile applies written a.clients knows
+  records_in_range records applies written knows = enters_in_range records n.volatile applies written a.clients knows a.pages
 
 module _ {shape : Shape} {member : ℕ} {n : Node} where
   pub keeping_in_range :
       (v : Volatile) (act : Act) → ClientsInRange shape v.hint v.calls → KnowsInRange v.role (length act.node.durable.log) v.first v.heard →
-      ActInRange shape member n act → ActInRange shape member n (keeping v act)
-  keeping_in_range v act clients knows a = record {
-    node = in_volatile a.node v clients knows;
+      All (PageInRange shape.need) v.pages → ActInRange shape member n act → ActInRange shape member n (keeping v act)
+  keeping_in_range v act clients knows pages a = record {
+    node = in_volatile a.node v clients knows pages;
     applies = a.applies;
     written = a.written;
     replies = a.replies;
@@ -147,6 +157,16 @@ module _ {shape : Shape} (is : IsShape shape) {member : ℕ} {n : Node} (a : Nod
       let members' : All (IsMember shape) (others n) = All-filter (λ member. not (member == n.me)) (IsMember shape) (members n.shape) of_shape in
       let apart : All (λ member. not (member == n.me) ≡ true) (others n) = filter_passes (λ member. not (member == n.me)) (members n.shape) in
       λ i d lt. (members' i d lt, λ e. eqb-false _ _ (not-true _ (apart i d lt)) (e ∙ sym a.me))
+
+  -- what it says to some of them
+  pub to_some_fit :
+      (whom : ℕ → Bool) (body : Peer) → Fits (body_fields shape.need n.durable.term (peer_kind body)) body →
+      All (HasSpelling shape) (map (message_of n body) (filter whom (others n)))
+  to_some_fit whom body fits =
+      All-map (HasSpelling shape) (message_of n body) (filter whom (others n))
+      (All-weaker (λ receiver. IsMember shape receiver × (receiver ≢ member)) (λ receiver. HasSpelling shape (message_of n body receiver))
+      (λ receiver to. message_of_fits body receiver to.0 to.1 fits) (filter whom (others n))
+      (All-filter whom (λ receiver. IsMember shape receiver × (receiver ≢ member)) (others n) others_are))
 
   -- what it says to each other member
   pub to_others_fit :

@@ -146,7 +146,7 @@ module _
     following_in_range none =
         let now : Node = record n { volatile = following leader n } in
         before_in_range (following leader n) (act_of_heard_append leader prev prev_term commit es now)
-        (heard_in_range {n = now} (in_volatile a (following leader n) (is_member, a.clients.1) none) begun refl said)
+        (heard_in_range {n = now} (in_volatile a (following leader n) (is_member, a.clients.1) none a.pages) begun refl said)
 
     append_as_in_range : (role : Role) → n.volatile.role ≡ role → ActInRange shape member n (act_of_append_as role n leader prev prev_term commit es)
     append_as_in_range Follower e = following_in_range (knows_as a Follower e)

@@ -126,7 +126,7 @@ module _ {shape : Shape} (is : IsShape shape) {member : ℕ} {n : Node} (a : Nod
       (told_in_range shape is member a.is_member n.durable a.durable n.volatile.calls a.clients.1 index within)
       (enters_in_range a (Commit index ∷ []) (waiting index n.volatile) (record { behind = above; within = within }, tt)
       (commit_fits shape.need index (omega (arith, above)) (omega (arith, within, a.durable.short)), tt)
-      (a.clients.0, All-filter (λ c. nat_lt index c.index) CallInRange n.volatile.calls a.clients.1) a.knows)
+      (a.clients.0, All-filter (λ c. nat_lt index c.index) CallInRange n.volatile.calls a.clients.1) a.knows a.pages)
 
   pub commit_in_range : ActInRange shape member n (act_of_commit index n)
   commit_in_range =

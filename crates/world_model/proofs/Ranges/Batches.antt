@@ -1,15 +1,17 @@
 -- Entries in order as a message carries them: their fields fit, and what fits is in order.
-use Rattle.std.proofs.Common.{◌≡◌, ℕ, zero, suc, ◌-◌, ◌≤◌, ◌&&◌, true, Bool, nat_le, List, [], ◌∷◌, length, refl, ap, subst, arith}
+use Rattle.std.proofs.Common.{◌≡◌, ℕ, zero, suc, ◌-◌, ◌≤◌, ◌&&◌, true, Bool, nat_le, List, [], ◌∷◌, length, drop, map, refl, sym, ap, subst, arith}
+use Rattle.std.specs.List.{All}
+use Rattle.std.proofs.lemmas.List.Elements.{All-cons, All-nil}
 use Rattle.std.proofs.lemmas.Bool.{cond_both, and_parts, and_from, le-leb, leb-true}
 use Rattle.craft_base.specs.declared.command.Entry.{Entry}
-use Rattle.entry_frames.specs.Entries.{entry_fields, entry_fields_in}
+use Rattle.entry_frames.specs.Entries.{entry_fields, entry_fields_in, is_whole}
 use Rattle.entry_frames.specs.Formats.{Fits, Format, Value, Test, embed}
 use Rattle.entry_frames.specs.MessageFields.{entries_fields, entry_size, first_entry, later_entries, least_next}
 use Rattle.entry_frames.specs.Stored.{AreEntries}
 use Rattle.entry_frames.proofs.Entries.{entry_faithful, fits_any}
 use Rattle.entry_frames.proofs.Formats.{Faithful, embed_faithful, embed_fits, embedded_fits}
-use Rattle.world_model.specs.Quorums.{is_whole}
-use Rattle.world_model.specs.Rules.Say.{batch_of}
+use Rattle.coded_append.specs.Batches.{before_part, fitting, has_value, part_for, sent_to}
+use Rattle.coded_append.proofs.Ranges.{sent_fits}
 
 -- ---- an entry, and its term between two others
 
@@ -31,46 +33,87 @@ behind_entry k rises high count low room e =
 
 -- ---- the entries of a batch
 
-pub batch_few : (k places room : ℕ) (es : List Entry) → length (batch_of k places room es) ≤ places
-batch_few k zero room es = omega arith
-batch_few k (suc places) room [] = omega arith
-batch_few k (suc places) room (e ∷ es) =
-    let rest : length (batch_of k places (room - entry_size k e) es) ≤ places = batch_few k places (room - entry_size k e) es in
-    cond_both (is_whole e.form && nat_le (entry_size k e) room) (e ∷ batch_of k places (room - entry_size k e) es) [] (λ batch. length batch ≤ suc places)
+pub fitting_few : (k places room : ℕ) (es : List Entry) → length (fitting k places room es) ≤ places
+fitting_few k zero room es = omega arith
+fitting_few k (suc places) room [] = omega arith
+fitting_few k (suc places) room (e ∷ es) =
+    let rest : length (fitting k places (room - entry_size k e) es) ≤ places = fitting_few k places (room - entry_size k e) es in
+    cond_both (nat_le (entry_size k e) room) (e ∷ fitting k places (room - entry_size k e) es) [] (λ batch. length batch ≤ suc places)
     (λ fits. omega (arith, rest)) (λ none. omega arith)
 
-pub batch_short : (k places room : ℕ) (es : List Entry) → length (batch_of k places room es) ≤ length es
-batch_short k zero room es = omega arith
-batch_short k (suc places) room [] = omega arith
-batch_short k (suc places) room (e ∷ es) =
-    let rest : length (batch_of k places (room - entry_size k e) es) ≤ length es = batch_short k places (room - entry_size k e) es in
-    cond_both (is_whole e.form && nat_le (entry_size k e) room) (e ∷ batch_of k places (room - entry_size k e) es) [] (λ batch. length batch ≤ suc (length es))
+pub fitting_short : (k places room : ℕ) (es : List Entry) → length (fitting k places room es) ≤ length es
+fitting_short k zero room es = omega arith
+fitting_short k (suc places) room [] = omega arith
+fitting_short k (suc places) room (e ∷ es) =
+    let rest : length (fitting k places (room - entry_size k e) es) ≤ length es = fitting_short k places (room - entry_size k e) es in
+    cond_both (nat_le (entry_size k e) room) (e ∷ fitting k places (room - entry_size k e) es) [] (λ batch. length batch ≤ suc (length es))
     (λ fits. omega (arith, rest)) (λ none. omega arith)
+
+pub before_short : (es : List Entry) → length (before_part es) ≤ length es
+before_short [] = omega arith
+before_short (e ∷ es) =
+    let rest : length (before_part es) ≤ length es = before_short es in
+    cond_both (is_whole e.form) (e ∷ before_part es) [] (λ front. length front ≤ suc (length es)) (λ whole. omega (arith, rest)) (λ part. omega arith)
+
+pub before_are : (k low high : ℕ) (es : List Entry) → AreEntries k low high es → AreEntries k low high (before_part es)
+before_are k low high [] are = tt
+before_are k low high (e ∷ es) are =
+    cond_both (is_whole e.form) (e ∷ before_part es) [] (AreEntries k low high) (λ whole. (are.0, are.1, are.2, before_are k e.term high es are.3)) (λ part. tt)
+
+-- an entry as it goes is of its term
+pub sent_term : (k member : ℕ) (e : Entry) → (sent_to k member e).term ≡ e.term
+sent_term k member e = cond_both (has_value e) (record e { form = part_for k member e.form }) e (λ x. x.term ≡ e.term) (λ some. refl) (λ none. refl)
+
+-- entries that are held whole are in order as they go
+pub sent_are : (k member low high : ℕ) (es : List Entry) → AreEntries k low high es → AreEntries k low high (map (sent_to k member) (before_part es))
+sent_are k member low high [] are = tt
+sent_are k member low high (e ∷ es) are =
+    let same : (sent_to k member e).term ≡ e.term = sent_term k member e in
+    let rest : AreEntries k e.term high (map (sent_to k member) (before_part es)) = sent_are k member e.term high es are.3 in
+    cond_both (is_whole e.form) (e ∷ before_part es) [] (λ front. AreEntries k low high (map (sent_to k member) front))
+    (λ whole. (
+      sent_fits k member e whole are.0,
+      omega (arith, same, are.1),
+      omega (arith, same, are.2),
+      subst (λ (t : ℕ). AreEntries k t high (map (sent_to k member) (before_part es))) (sym same) rest,
+    ))
+    (λ part. tt)
+
+-- what is left of entries in order
+pub dropped_are : (k low high n : ℕ) (es : List Entry) → AreEntries k low high es → AreEntries k 0 high (drop n es)
+dropped_are k low high zero [] are = tt
+dropped_are k low high (suc n) [] are = tt
+dropped_are k low high zero (e ∷ es) are = (are.0, omega arith, are.2, are.3)
+dropped_are k low high (suc n) (e ∷ es) are = dropped_are k e.term high n es are.3
 
 module _ (k high : ℕ) where
-  abbrev FitAll : (low room : ℕ) → List Entry → Type 0
-  FitAll low room es = Fits (entries_fields k true high (length es) low room) es
+  abbrev FitAll : (rises : Bool) (low room : ℕ) → List Entry → Type 0
+  FitAll rises low room es = Fits (entries_fields k rises high (length es) low room) es
 
   abbrev with_later : Entry → List Entry → Format (List Entry)
   with_later e es = Value (e ∷ es)
 
   one_more_fits :
-      (low room : ℕ) (e : Entry) (es : List Entry) → Fits (entry_fields_in k low high) e → nat_le (entry_size k e) room ≡ true →
-      FitAll e.term (room - entry_size k e) es → FitAll low room (e ∷ es)
-  one_more_fits low room e es fits small rest =
-      let outer : Fits (behind_entry k true high (length es) low room e) (e ∷ es) =
-      (small, embed_fits (entries_fields k true high (length es) e.term (room - entry_size k e)) later_entries (with_later e) (e ∷ es) rest refl) in
-      embed_fits (entry_fields_in k low high) first_entry (behind_entry k true high (length es) low room) (e ∷ es) fits outer
+      (rises : Bool) (low room : ℕ) (e : Entry) (es : List Entry) → Fits (entry_fields_in k low high) e → nat_le (entry_size k e) room ≡ true →
+      FitAll rises (least_next rises low e.term) (room - entry_size k e) es → FitAll rises low room (e ∷ es)
+  one_more_fits rises low room e es fits small rest =
+      let outer : Fits (behind_entry k rises high (length es) low room e) (e ∷ es) =
+      (small, embed_fits (entries_fields k rises high (length es) (least_next rises low e.term) (room - entry_size k e)) later_entries (with_later e) (e ∷ es) rest refl) in
+      embed_fits (entry_fields_in k low high) first_entry (behind_entry k rises high (length es) low room) (e ∷ es) fits outer
 
-  pub batch_fits : (low places room : ℕ) (es : List Entry) → AreEntries k low high es → FitAll low room (batch_of k places room es)
-  batch_fits low zero room es are = refl
-  batch_fits low (suc places) room [] are = refl
-  batch_fits low (suc places) room (e ∷ es) are =
-      let rest : FitAll e.term (room - entry_size k e) (batch_of k places (room - entry_size k e) es) = batch_fits e.term places (room - entry_size k e) es are.3 in
-      cond_both (is_whole e.form && nat_le (entry_size k e) room) (e ∷ batch_of k places (room - entry_size k e) es) [] (FitAll low room)
+  -- where terms have to rise, and where they needn't
+  pub fitting_fits :
+      (rises : Bool) (low least places room : ℕ) (es : List Entry) → low ≤ least → AreEntries k least high es → FitAll rises low room (fitting k places room es)
+  fitting_fits rises low least zero room es below are = refl
+  fitting_fits rises low least (suc places) room [] below are = refl
+  fitting_fits rises low least (suc places) room (e ∷ es) below are =
+      let next : least_next rises low e.term ≤ e.term = cond_both rises e.term low (λ l. l ≤ e.term) (λ rise. omega arith) (λ stay. omega (arith, below, are.1)) in
+      let rest : FitAll rises (least_next rises low e.term) (room - entry_size k e) (fitting k places (room - entry_size k e) es) =
+      fitting_fits rises (least_next rises low e.term) e.term places (room - entry_size k e) es next are.3 in
+      cond_both (nat_le (entry_size k e) room) (e ∷ fitting k places (room - entry_size k e) es) [] (FitAll rises low room)
       (λ taken.
-      one_more_fits low room e (batch_of k places (room - entry_size k e) es) (fits_between k low high e are.0 are.1 are.2)
-      (and_parts (is_whole e.form) (nat_le (entry_size k e) room) taken).1 rest)
+      one_more_fits rises low room e (fitting k places (room - entry_size k e) es)
+      (fits_between k low high e are.0 (omega (arith, below, are.1)) are.2) taken rest)
       (λ none. refl)
 
 -- ---- the entries of a message
@@ -90,6 +133,20 @@ behind_faithful k rises high count low room e = λ passes.
 
 later_back : (e : Entry) (es : List Entry) → Faithful (Value (e ∷ es)) (λ w. later_entries w ≡ es)
 later_back e es = refl
+
+-- entries that fit do so each
+pub entries_fit :
+    (k : ℕ) (rises : Bool) (high count low room : ℕ) (es : List Entry) → Fits (entries_fields k rises high count low room) es → All (Fits (entry_fields k)) es
+entries_fit k rises high zero low room es fits = subst (All (Fits (entry_fields k))) fits (All-nil (Fits (entry_fields k)))
+entries_fit k rises high (suc count) low room es fits =
+    let one = entry_fields_in k low high in
+    let e = first_entry es in
+    let both = embedded_fits one first_entry (behind_entry k rises high count low room) es (behind_faithful k rises high count low room) fits in
+    let more = entries_fields k rises high count (least_next rises low e.term) (room - entry_size k e) in
+    let make : List Entry → Format (List Entry) = λ later. Value (e ∷ later) in
+    let inner = embedded_fits more later_entries make es (later_back e) both.1.1 in
+    let rest : All (Fits (entry_fields k)) (later_entries es) = entries_fit k rises high count (least_next rises low e.term) (room - entry_size k e) (later_entries es) inner.0 in
+    subst (All (Fits (entry_fields k))) inner.1 (All-cons (Fits (entry_fields k)) e (later_entries es) (fits_any k low high e both.0) rest)
 
 -- entries that fit, and whose terms rise, are in order
 pub entries_in_order :

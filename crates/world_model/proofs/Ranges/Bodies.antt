@@ -27,6 +27,9 @@ refusal_fits need term commit low = (
   (fits_within U64 1 (last_place + 1) (commit + 1) (omega (arith, low)) (omega arith) (omega (arith, low)), refl),
 )
 
+pub ask_fits : (need term start : ℕ) → 1 ≤ start → start ≤ last_place → Fits (body_fields need term peer_kinds.Ask) (peers.Ask start)
+ask_fits need term start least most = (fits_within U64 1 last_place start (omega (arith, most)) least most, refl)
+
 -- a log that isn't empty ends in a term
 ends_in_term : (entry : Entry) (log : List Entry) → All (λ e. IsTerm e.term) (entry ∷ log) → IsTerm (last_term (entry ∷ log))
 ends_in_term entry [] all = All-head (λ e. IsTerm e.term) entry [] all

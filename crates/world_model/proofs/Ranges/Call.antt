@@ -80,7 +80,7 @@ module _ {shape : Shape} (is : IsShape shape) {member : ℕ} {n : Node} (a : Nod
         enters_in_range a (Add entry ∷ []) (rule.calling place r (rule.act_of_entry r n).node) (next, tt)
         (add_fits shape.need entry (entry_for_fits shape.need n.durable.term begun a.durable.stored.term_most r fits), tt)
         (a.clients.0, All-append CallInRange n.volatile.calls (c ∷ []) a.clients.1 (All-cons CallInRange c [] (client_in_range r fits, seq_in_range r fits) (All-nil CallInRange)))
-        (rw leads (knows.0, omega (arith, knows.1, longer), heard, omega (arith, longer)))
+        (rw leads (knows.0, omega (arith, knows.1, longer), heard, omega (arith, longer))) a.pages
 
     telling_in_range : {now : Node} → NodeInRange shape member now → now.volatile.role ≡ Leader → ActInRange shape member now (rule.act_of_telling now)
     telling_in_range {now = now} b leading =

@@ -15,7 +15,8 @@ use Rattle.entry_frames.specs.Records.{Record, Whole}
 use Rattle.entry_frames.specs.Stored.{AreEntries, DurableInRange}
 use Rattle.entry_frames.proofs.Durable.{can_apply-append}
 use Rattle.entry_frames.proofs.Stored.{complete_length, fits_at, records_kept}
-use Rattle.world_model.specs.Rules.Append.{completion, completion_of, completions, is_same_head}
+use Rattle.leader_prep.specs.Verdicts.{is_same_head}
+use Rattle.world_model.specs.Rules.Append.{completion, completion_of, completions}
 use Rattle.world_model.proofs.Recorded.{after-append}
 use Rattle.world_model.proofs.Ranges.Records.{spelled-append, whole_fits}
 use Rattle.world_model.proofs.Ranges.Values.{IsLong, part_length, same_vlen, whole_length}
@@ -51,7 +52,7 @@ complete_term_at : (log : List Entry) (position : ℕ) (bytes : List ℕ) (index
 complete_term_at log position bytes zero = refl
 complete_term_at log position bytes (suc k) = complete_term log position bytes k
 
-complete_there : (log : List Entry) (position : ℕ) (bytes : List ℕ) (k : ℕ) → k ≢ position → slice_get (complete_at log position bytes) k ≡ slice_get log k
+pub complete_there : (log : List Entry) (position : ℕ) (bytes : List ℕ) (k : ℕ) → k ≢ position → slice_get (complete_at log position bytes) k ≡ slice_get log k
 complete_there [] position bytes k apart = refl
 complete_there (entry ∷ log) zero bytes zero apart = absurd (apart refl)
 complete_there (entry ∷ log) zero bytes (suc k) apart = refl
@@ -102,22 +103,29 @@ AreSound shape d records = CanApplyAll shape d records × HaveSpellings shape.ne
 
 module _ (shape : Shape) where
   module _
-      (d : Durable) (keeps : DurableInRange shape d) (index place : ℕ) (is : index ≡ suc place) (own e : Entry) (here : slice_get d.log place ≡ Some own)
-      (within : index ≤ last_place) (fits : Fits (entry_fields shape.need) e) where
+      (d : Durable) (keeps : DurableInRange shape d) (index place : ℕ) (is : index ≡ suc place) (own : Entry) (here : slice_get d.log place ≡ Some own)
+      (within : index ≤ last_place) where
     there : entry_at d.log index ≡ Some own
     there = ap (entry_at d.log) is ∙ here
 
-    own_fits : Fits (entry_fields shape.need) own
+    pub own_fits : Fits (entry_fields shape.need) own
     own_fits = fits_at shape.need 0 d.term d.log index own keeps.stored.entries there
 
-    value_sound : (part value : List ℕ) → own.form ≡ forms.Part part → e.form ≡ forms.Whole value → own.head.vlen ≡ e.head.vlen → AreSound shape d (Whole index value ∷ [])
-    value_sound part value of_part of_whole same =
-        let long : length value ≡ own.head.vlen = whole_length shape.need e value fits of_whole ∙ sym same in
+    -- a part, with a value of its length
+    pub made_sound : (part value : List ℕ) → own.form ≡ forms.Part part → length value ≡ own.head.vlen → AreSound shape d (Whole index value ∷ [])
+    made_sound part value of_part long =
         let range : IsLong own.head.vlen = part_length shape.need own part own_fits of_part in
         let lacks : IsPartOf own.form own.head.vlen (length value) = subst (λ (f : Form). IsPartOf f own.head.vlen (length value)) (sym of_part) (sym long) in (
           (subst (λ o. LacksValue o (length value)) (sym there) lacks, tt),
           (whole_fits shape.need index value (omega (arith, is)) within (omega (arith, range.0, long)) (omega (arith, range.1, long)), tt),
         )
+
+  module _
+      (d : Durable) (keeps : DurableInRange shape d) (index place : ℕ) (is : index ≡ suc place) (own e : Entry) (here : slice_get d.log place ≡ Some own)
+      (within : index ≤ last_place) (fits : Fits (entry_fields shape.need) e) where
+    value_sound : (part value : List ℕ) → own.form ≡ forms.Part part → e.form ≡ forms.Whole value → own.head.vlen ≡ e.head.vlen → AreSound shape d (Whole index value ∷ [])
+    value_sound part value of_part of_whole same =
+        made_sound d keeps index place is own here within part value of_part (whole_length shape.need e value fits of_whole ∙ sym same)
 
     forms_sound : (f g : Form) → own.form ≡ f → e.form ≡ g → own.head.vlen ≡ e.head.vlen → AreSound shape d (completion_of index f g)
     forms_sound (forms.Part part) (forms.Whole value) one other same = value_sound part value one other same

@@ -18,7 +18,7 @@ any_log last Beat silent = tt
 any_log last (From sender at (Voted granted)) silent = tt
 any_log last (From sender at (Matched prev count mask)) silent = absurd silent
 any_log last (From sender at (Refused next)) silent = absurd silent
-any_log last (From sender at Answered) silent = absurd silent
+any_log last (From sender at Answered) silent = tt
 
 pub any_logs : (last : ℕ) (heard : List Heard) → All IsOfNoLog heard → All (ItemInRange last) heard
 any_logs last heard none = All-weaker IsOfNoLog (ItemInRange last) (any_log last) heard none
@@ -35,7 +35,7 @@ hears Leader last first item heard silent knows =
 pub leader_hears : (last first : ℕ) (item : Heard) (heard : List Heard) → ItemInRange last item → KnowsInRange Leader last first heard → KnowsInRange Leader last first (item ∷ heard)
 leader_hears last first item heard ranged knows = (knows.0, knows.1, All-cons (ItemInRange last) item heard ranged knows.2, knows.3)
 
-begun_with : {shape : Shape} {term : ℕ} (log : List Entry) → IsStored shape term log → 1 ≤ length log → 1 ≤ term
+pub begun_with : {shape : Shape} {term : ℕ} (log : List Entry) → IsStored shape term log → 1 ≤ length log → 1 ≤ term
 begun_with [] stored some = absurd (omega (arith, some))
 begun_with {shape = shape} (e ∷ log) stored some = omega (arith, term_least shape.need e (stored.entries).0, (stored.entries).2)
 

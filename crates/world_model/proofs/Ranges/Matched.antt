@@ -7,7 +7,8 @@ use Rattle.craft_base.specs.Shape.{Shape, IsShape}
 use Rattle.entry_frames.specs.declared.role.Role.{Role}
 use Rattle.entry_frames.specs.declared.role.Role.TheVariants.{Follower, Candidate, Preparing, Leader}
 use Rattle.world_model.specs.Nodes.{Node, node_hearing}
-use Rattle.world_model.specs.Quorums.{may_commit, open_indexes}
+use Rattle.coded_append.specs.Starts.{open_indexes}
+use Rattle.world_model.specs.Quorums.{may_commit}
 use Rattle.world_model.specs.Ranges.{IsMember, KnowsInRange, NodeInRange, ToldInRange}
 use Rattle.world_model.specs.Rules.Acts.{stays}
 use Rattle.world_model.specs.Rules.Applying.{act_of_commit}
@@ -63,7 +64,7 @@ module _
   hearing_in_range told ranged leads =
       in_volatile a (hearing told).volatile a.clients
       (subst (λ (role : Role). KnowsInRange role (length n.durable.log) n.volatile.first (log_heard n sender told ∷ n.volatile.heard)) (sym leads)
-      (leader_hears (length n.durable.log) n.volatile.first (log_heard n sender told) n.volatile.heard ranged (knows_as a Leader leads)))
+      (leader_hears (length n.durable.log) n.volatile.first (log_heard n sender told) n.volatile.heard ranged (knows_as a Leader leads))) a.pages
 
   module _ (prev count mask : ℕ) where
     matched_as_in_range : (role : Role) → n.volatile.role ≡ role → ActInRange shape member n (act_of_matched_as role n sender prev count mask)

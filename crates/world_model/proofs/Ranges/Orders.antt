@@ -83,7 +83,7 @@ taken_at (x ∷ log) zero i own e = absurd cc
 taken_at (x ∷ log) (suc n) zero own e = e
 taken_at (x ∷ log) (suc n) (suc i) own e = taken_at log n i own e
 
-dropped_at : (log : List Entry) (n i at : ℕ) (own : Entry) → at ≡ n + i → slice_get (drop n log) i ≡ Some own → slice_get log at ≡ Some own
+pub dropped_at : (log : List Entry) (n i at : ℕ) (own : Entry) → at ≡ n + i → slice_get (drop n log) i ≡ Some own → slice_get log at ≡ Some own
 dropped_at log zero i at own is e = subst (λ (k : ℕ). slice_get log k ≡ Some own) (omega (arith, is)) e
 dropped_at [] (suc n) i at own is e = absurd cc
 dropped_at (x ∷ log) (suc n) i zero own is e = absurd (omega (arith, is))

@@ -7,11 +7,12 @@ use Rattle.std.proofs.lemmas.List.Elements.{All-from_get_or, All-head, All-tail}
 use Rattle.std.proofs.lemmas.List.Folds.{find_at}
 use Rattle.std.proofs.lemmas.List.FromFn.{length-range_with_len, get_or-range_with_len}
 use Rattle.std.proofs.lemmas.Option.{slice_get_within, get_or_from_slice_get}
-use Rattle.craft_base.specs.Knowledge.{Heard, Beat, From, Told, Voted, Matched, Refused, Answered, has_matched, held_form, is_admitted, least_of, least_refused, match_index, matched_to, next_index, refused_next, told_by}
+use Rattle.coded_append.specs.Starts.{first_lacking, no_later_than, open_indexes, start_for}
+use Rattle.coded_append.specs.declared.modes.Mode.{Mode}
+use Rattle.coded_append.specs.declared.modes.Mode.TheVariants.{Coded, Complete}
+use Rattle.craft_base.specs.Knowledge.{Heard, Beat, From, Told, Voted, Matched, Refused, Answered, has_matched, is_admitted, is_held_whole, least_of, least_refused, match_index, matched_to, next_index, refused_next, told_by}
 use Rattle.craft_base.specs.declared.command.Entry.{Entry}
-use Rattle.world_model.specs.Quorums.{is_held_whole, open_indexes}
 use Rattle.world_model.specs.Ranges.{ItemInRange, ToldInRange}
-use Rattle.world_model.specs.Rules.Say.{first_lacking, no_later_than, start_for}
 
 -- an index of a log that has that last index, or the one behind it
 abbrev pub IsPlace : (last index : ℕ) → Type 0
@@ -39,7 +40,7 @@ found_of P p xs x all e =
 lacking_is : (member commit : ℕ) (log : List Entry) (heard : List Heard) (lacking : Option ℕ) → first_lacking member commit log heard ≡ lacking → IsPlaceIn (length log) lacking
 lacking_is member commit log heard None e = tt
 lacking_is member commit log heard (Some index) e =
-    let at = found_of (λ i. (commit < i) × (i ≤ length log)) (λ i. not (is_held_whole (held_form member i heard))) (open_indexes commit log) index (open_within commit log) e in
+    let at = found_of (λ i. (commit < i) × (i ≤ length log)) (λ i. not (is_held_whole member i heard)) (open_indexes commit log) index (open_within commit log) e in
     (omega (arith, at.0), omega (arith, at.1))
 
 -- ---- what was heard
@@ -103,8 +104,9 @@ no_later last index (Some other) is place = (omega (arith, is.0, place.0), omega
 
 -- the place from which on the entries of a log are sent
 pub starts_within :
-    (member commit : ℕ) (log : List Entry) (heard : List Heard) (first : ℕ) → All (ItemInRange (length log)) heard → IsPlace (length log) first →
-    IsPlace (length log) (start_for member commit log heard first)
-starts_within member commit log heard first all place =
+    (mode : Mode) (member commit : ℕ) (log : List Entry) (heard : List Heard) (first : ℕ) → All (ItemInRange (length log)) heard → IsPlace (length log) first →
+    IsPlace (length log) (start_for mode member commit log heard first)
+starts_within Coded member commit log heard first all place = next_is (length log) member first heard all place
+starts_within Complete member commit log heard first all place =
     no_later (length log) (next_index member heard first) (first_lacking member commit log heard) (lacking_is member commit log heard (first_lacking member commit log heard) refl)
     (next_is (length log) member first heard all place)

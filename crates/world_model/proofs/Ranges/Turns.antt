@@ -1,5 +1,5 @@
 -- A turn keeps its node in range, whatever it is told that is in range, and its records can be applied and are spelled.
-use Rattle.std.proofs.Common.{◌≡◌, ℕ, ◌+◌, ◌≤◌, nat_lt, sym, subst, arith}
+use Rattle.std.proofs.Common.{◌≡◌, ℕ, ◌+◌, ◌≤◌, nat_lt, refl, sym, subst, arith}
 use Rattle.std.proofs.lemmas.Bool.{cond_both, ltb-true}
 use Rattle.craft_base.specs.Shape.{Shape, IsShape}
 use Rattle.entry_frames.specs.Formats.{Fits, U64}
@@ -20,7 +20,9 @@ use Rattle.world_model.proofs.Frames.{Ends, body_spelled, ends_of, lies_within}
 use Rattle.world_model.proofs.Recorded.{term_recorded}
 use Rattle.world_model.proofs.Turns.{caught_up}
 use Rattle.world_model.proofs.Ranges.Acts.{ActInRange, followed_in_range, stays_in_range}
+use Rattle.world_model.proofs.Ranges.Answer.{answer_as_in_range, slots_of}
 use Rattle.world_model.proofs.Ranges.Append.{append_in_range, stretch_of}
+use Rattle.world_model.proofs.Ranges.Ask.{ask_in_range}
 use Rattle.world_model.proofs.Ranges.Call.{call_in_range}
 use Rattle.world_model.proofs.Ranges.Matched.{matched_in_range, refused_in_range}
 use Rattle.world_model.proofs.Ranges.Terms.{lower_term_in_range, term_in_range}
@@ -41,8 +43,12 @@ module _ {shape : Shape} (is : IsShape shape) where
   peer_in_range {from = from} ends a begun (peers.Matched prev count mask) said = matched_in_range is a from ends.sender ends.apart prev count mask
   peer_in_range {from = from} ends a begun (peers.Refused next) said =
       refused_in_range is a from ends.sender ends.apart next (lies_within U64 1 (last_place + 1) next said.1.0).0
-  peer_in_range ends a begun (peers.Ask start) said = stays_in_range a
-  peer_in_range ends a begun (peers.Answer start last slots) said = stays_in_range a
+  peer_in_range {from = from} ends a begun (peers.Ask start) said =
+      let within = lies_within U64 1 last_place start said.0 in
+      ask_in_range is from ends.sender ends.apart start within.0 within.1 a begun
+  peer_in_range {from = from} {n = n} ends a begun (peers.Answer start last slots) said =
+      answer_as_in_range is a begun (record { sender = from; start = start; last = last; slots = slots })
+      (slots_of shape.need n.durable.term start last slots said) n.volatile.role refl
 
   -- a message comes to the member that it is for
   pub message_in_range : (m : Message) {n : Node} → HasSpelling shape m → NodeInRange shape (receiver_byte m) n → ActInRange shape (receiver_byte m) n (act_of_message m n)

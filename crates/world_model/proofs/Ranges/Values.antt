@@ -11,7 +11,7 @@ use Rattle.craft_base.specs.declared.command.Op.TheVariants as ops
 use Rattle.entry_frames.specs.Entries.{entry_fields}
 use Rattle.entry_frames.specs.Formats.{Fits, within}
 use Rattle.entry_frames.specs.Limits.{longest_value}
-use Rattle.world_model.specs.Rules.Append.{is_same_head, is_same_op}
+use Rattle.leader_prep.specs.Verdicts.{is_same_head, is_same_op}
 
 -- ---- how long values are
 

@@ -37,7 +37,7 @@ module _
       (keeping (record n.volatile { quiet = 0 }) (act_of_vote_from n.durable.vote candidate n))
       (one_message_fits is a begun (peers.VoteReply true) candidate is_member apart (reply_fits shape.need n.durable.term true))
       (keeping_in_range (record n.volatile { quiet = 0 }) (act_of_vote_from n.durable.vote candidate n) a.clients
-      (vote_from_knows n.durable.vote) (vote_from_in_range n.durable.vote refl))
+      (vote_from_knows n.durable.vote) a.pages (vote_from_in_range n.durable.vote refl))
 
   vote_refusal_in_range : ActInRange shape member n (act_of_vote_refusal candidate n)
   vote_refusal_in_range =

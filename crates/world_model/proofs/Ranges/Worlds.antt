@@ -9,7 +9,7 @@ use Rattle.entry_frames.specs.Durable.{Durable, born}
 use Rattle.entry_frames.specs.Stored.{DurableInRange}
 use Rattle.entry_frames.specs.declared.message.Message.{Message}
 use Rattle.world_model.specs.Nodes.{Node, Volatile, fresh, node_with}
-use Rattle.world_model.specs.Ranges.{CallInRange, EventInRange, IsMember, IsOfNoLog, NodeInRange, HasSpelling, InRange, EveryRunInRange}
+use Rattle.world_model.specs.Ranges.{CallInRange, EventInRange, IsMember, IsOfNoLog, NodeInRange, HasSpelling, InRange, PageInRange, EveryRunInRange}
 use Rattle.world_model.specs.Rules.Acts.{Act}
 use Rattle.world_model.specs.Turn as turns
 use Rattle.world_model.specs.Turn.{turned}
@@ -88,7 +88,7 @@ module _ {shape : Shape} {w : World} (r : InRange shape w) where
   after_turn_in_range aim d volatile here act b =
       let n : Node = node_with w.shape aim.member d volatile in
       let next : NodeInRange shape aim.member (node_with w.shape aim.member act.node.durable act.node.volatile) =
-      record { of_shape = r.of_shape; me = refl; is_member = b.node.is_member; durable = b.node.durable; clients = b.node.clients; knows = b.node.knows } in record {
+      record { of_shape = r.of_shape; me = refl; is_member = b.node.is_member; durable = b.node.durable; clients = b.node.clients; knows = b.node.knows; pages = b.node.pages } in record {
         of_shape = r.of_shape;
         members = members_after aim.member _ (record { durable = act.node.durable; running = Some act.node.volatile }) here next;
         sent = All-append (HasSpelling shape) w.sent _ r.sent (All-same (HasSpelling shape) _ act.sends (sent_among-turned n act) b.sends);
@@ -96,7 +96,7 @@ module _ {shape : Shape} {w : World} (r : InRange shape w) where
 
   -- a member that is down would start with nothing heard
   down_next : (me : ℕ) (d : Durable) → IsMember shape me → DurableInRange shape d → NodeInRange shape me (node_of w.shape me (down_with d))
-  down_next me d is_member keeps = record { of_shape = r.of_shape; me = refl; is_member = is_member; durable = keeps; clients = (tt, All-nil CallInRange); knows = All-nil IsOfNoLog }
+  down_next me d is_member keeps = record { of_shape = r.of_shape; me = refl; is_member = is_member; durable = keeps; clients = (tt, All-nil CallInRange); knows = All-nil IsOfNoLog; pages = All-nil (PageInRange shape.need) }
 
   down_as_in_range :
       (me : ℕ) (d : Durable) (running : Option Volatile) → slice_get w.members me ≡ Some (record { durable = d; running = running }) →
@@ -172,6 +172,7 @@ newborn_in_range shape is me is_member = record {
   durable = newborn_durable shape is;
   clients = (tt, All-nil CallInRange);
   knows = All-nil IsOfNoLog;
+  pages = All-nil (PageInRange shape.need);
 }
 
 pub start_in_range : {shape : Shape} → IsShape shape → InRange shape (start shape)

@@ -1,18 +1,15 @@
 -- Append: a member makes its log the leader's, as far as the message tells it.
 use Rattle.std.specs.Prelude.{ℕ, suc, ◌+◌, ◌*◌, min, List, [], ◌∷◌, ◌++◌, length, take, drop, map, Bool, true, false, ◌&&◌, ◌==◌, if◌then◌else◌, nat_le, Option, None, Some}
 use Rattle.std.specs.Option.{option_to_list}
-use Rattle.std.specs.Str.{bytes_eq}
 use Rattle.craft_base.specs.declared.command.Entry.{Entry}
 use Rattle.craft_base.specs.declared.command.Form.{Form}
 use Rattle.craft_base.specs.declared.command.Form.TheVariants as forms
-use Rattle.craft_base.specs.declared.command.Head.{Head}
-use Rattle.craft_base.specs.declared.command.Op.{Op}
-use Rattle.craft_base.specs.declared.command.Op.TheVariants as ops
 use Rattle.entry_frames.specs.Logs.{term_at}
 use Rattle.entry_frames.specs.Records.{Record, Add, Cut, Whole}
 use Rattle.entry_frames.specs.declared.peer.Peer.TheVariants as peers
 use Rattle.entry_frames.specs.declared.role.Role.{Role}
 use Rattle.entry_frames.specs.declared.role.Role.TheVariants.{Follower, Candidate, Preparing, Leader}
+use Rattle.leader_prep.specs.Verdicts.{is_same_head}
 use Rattle.world_model.specs.Nodes.{Node, Volatile}
 use Rattle.world_model.specs.Quorums.{is_whole}
 use Rattle.world_model.specs.Rules.Acts.{Act, stays, recording_all, sending, followed_by, message_of}
@@ -47,19 +44,6 @@ is_clash commit None = false
 is_clash commit (Some index) = nat_le index commit
 
 -- ---- whole values in place of parts
-
-abbrev pub is_same_op : Op → Op → Bool
-is_same_op ops.Noop ops.Noop = true
-is_same_op ops.Put ops.Put = true
-is_same_op (ops.PutIf expected) (ops.PutIf other) = expected == other
-is_same_op ops.Del ops.Del = true
-is_same_op ops.Get ops.Get = true
-is_same_op _ _ = false
-
-abbrev pub is_same_head : Head → Head → Bool
-is_same_head one other =
-    (one.client == other.client) && (one.seq == other.seq) && is_same_op one.op other.op && bytes_eq one.key other.key
-    && (one.vlen == other.vlen)
 
 abbrev pub completion_of : ℕ → Form → Form → List Record
 completion_of index (forms.Part bytes) (forms.Whole value) = Whole index value ∷ []

@@ -1,8 +1,8 @@
 use Rattle.std.proofs.Common.{◌≡◌, ℕ, ◌+◌, ◌-◌, List, [], ◌∷◌, ◌++◌, length, drop, refl, ap, ◌∙◌, length-append, arith}
 use Rattle.craft_base.specs.declared.command.Entry.{Entry}
 use Rattle.coded_append.specs.Batches.{batch_of, fitting}
-use Rattle.coded_append.specs.Ways.{sent_by}
-use Rattle.coded_append.proofs.Sending.{going, no_places, sent_all, sent_more}
+use Rattle.coded_append.specs.Ways.{going, sent_by}
+use Rattle.coded_append.proofs.Sending.{no_places, sent_all, sent_more}
 use Rattle.coded_append.proofs.batches.batch_of.Goals as goal
 
 pub returns-in-None : goal.returns-in-None

@@ -1,6 +1,6 @@
 use Rattle.std.proofs.Common.{◌≡◌, ℕ, ◌-◌, ◌++◌, length, drop}
 use Rattle.coded_append.specs.Batches.{batch_of, fitting}
-use Rattle.coded_append.proofs.Sending.{going}
+use Rattle.coded_append.specs.Ways.{going}
 use Rattle.coded_append.proofs.batches.batch_of.Given as goal
 
 -- what is taken, and what is left of what fits, are the whole

@@ -1,5 +1,4 @@
 use Rattle.std.proofs.Common.{◌≡◌, ℕ, ◌+◌, suc, Some, ap, sym, subst, ◌∙◌, arith, add-one}
-use Rattle.craft_base.specs.declared.command.Head.{Head}
 use Rattle.entry_frames.specs.Logs.{entry_at}
 use Rattle.full_append.proofs.Lists.{viewed_some}
 use Rattle.kv_apply.specs.Services as services

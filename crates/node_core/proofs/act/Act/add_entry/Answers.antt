@@ -1,7 +1,7 @@
 use Rattle.std.proofs.Common.{◌≡◌, ◌≤◌, ℕ, length, sym, subst, ap, ◌∙◌, arith}
 use Rattle.std.proofs.lemmas.Result.{IfOk-weaker}
 use Rattle.craft_base.specs.declared.command.Entry.{Entry}
-use Rattle.entry_frames.specs.Durable.{Durable, IsNextEntry}
+use Rattle.entry_frames.specs.Durable.{Durable}
 use Rattle.entry_frames.specs.Entries.{entry_fields}
 use Rattle.entry_frames.specs.Formats.{Fits}
 use Rattle.entry_frames.specs.Limits.{greatest}
@@ -12,7 +12,7 @@ use Rattle.world_model.specs.Rules.Acts.{recording, stays}
 use Rattle.world_model.specs.Rules.Call as rule
 use Rattle.world_model.proofs.Ranges.Knowing.{leader_begun}
 use Rattle.world_model.proofs.Ranges.Requests.{entry_for_fits}
-use Rattle.node_core.specs.Acting.{IsActed}
+use Rattle.node_core.specs.Acting.{IsActed, is_preparing}
 use Rattle.node_core.proofs.act.Act.add_entry.Goals as goal
 
 pub of-requires-clause-fits : goal.of-requires-clause-fits
@@ -23,6 +23,9 @@ of-requires-clause-fits c =
     let begun : 1 ≤ term = subst (λ (t : ℕ). 1 ≤ t) (sym own) (leader_begun r.ranged (sym r.is.stands.of_role ∙ c.requires.leads)) in
     let most : term ≤ greatest = subst (λ (t : ℕ). t ≤ greatest) (sym own) r.ranged.durable.stored.term_most in
     subst (λ (e : Entry). Fits (entry_fields c.need-need.result) e) (sym c.in_ok-entry.ensures) (entry_for_fits c.need-need.result term begun most c.args.request.now c.requires.fits)
+
+pub record-requires-clause-free : goal.record-requires-clause-free
+record-requires-clause-free c = ap is_preparing c.requires.leads
 
 pub record-requires-clause-can : goal.record-requires-clause-can
 record-requires-clause-can c =

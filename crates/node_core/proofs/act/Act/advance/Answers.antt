@@ -1,4 +1,4 @@
-use Rattle.std.proofs.Common.{◌≡◌, ◌<◌, ◌≤◌, nat_lt, filter, refl, sym, subst, arith, rules}
+use Rattle.std.proofs.Common.{◌≡◌, nat_lt, filter, refl, sym, subst, arith, rules}
 use Rattle.std.proofs.lemmas.Fn.{filter_same}
 use Rattle.entry_frames.specs.Durable.{IsUncommitted}
 use Rattle.world_model.specs.declared.call.Called.{Called}
@@ -20,4 +20,4 @@ returns c = λ n is.
     let waits : c.retain.new.self.items ≡ filter (λ (call : Called). nat_lt index call.index) made.member.calls.items =
     filter_same _ (λ (call : Called). nat_lt index call.index) _ (λ x b f' k. search rules) _ _ c.retain.ensures.filtered in
     advanced index self c.in_ok-act.act made after c.in_ok-act.ensures c.in_ok-act-2.ensures refl c.settle.ensures.settled c.settle.ensures.heard waits c.requires.above c.requires.within
-    (commit_fits self.member.store.shape.need index (omega (arith, c.requires.above)) (omega (arith, c.requires.within, self.member.store.is_log.short))) n is
+    (commit_fits self.member.store.shape.need index (omega (arith, c.requires.above)) (omega (arith, c.requires.within, self.member.store.is_log.short))) c.requires.free n is

@@ -14,7 +14,7 @@ use Rattle.world_model.specs.Rules.Acts.{followed_by, message_of, recording_all,
 use Rattle.world_model.specs.Rules.Append.{act_of_entries, act_of_match, difference, has_before, is_clash, mask_of, taken_records}
 use Rattle.world_model.specs.Rules.Applying.{act_of_commit}
 use Rattle.world_model.proofs.Ranges.Applying.{commit_keeps}
-use Rattle.node_core.specs.Acting.{IsActed}
+use Rattle.node_core.specs.Acting.{IsActed, is_preparing}
 use Rattle.node_core.specs.Appending.{IsPlaceOf}
 use Rattle.node_core.proofs.Acting.{acted_after}
 use Rattle.node_core.proofs.Choosing.{taken_if_suited}
@@ -69,6 +69,9 @@ returns-in_ok-act-in-Take-2 c = IfOk-weaker c.match_with.result _ _ (λ x said n
     (acted_after (act_of_entries prev es n) (λ t. followed_by (act_of_commit theirs t) (act_of_match leader prev (length es))) self act1 x first
     (acted_after (act_of_commit theirs taken) (act_of_match leader prev (length es)) act1 act2 x second third)))
     c.match_with.ensures
+
+pub commit_to-requires-clause-free : goal.commit_to-requires-clause-free
+commit_to-requires-clause-free c = ap is_preparing c.in_ok-act-in-Take.ensures.role ∙ c.requires.free
 
 pub commit_to-requires-clause-served : goal.commit_to-requires-clause-served
 commit_to-requires-clause-served c =

@@ -1,4 +1,4 @@
-use Rattle.std.proofs.Common.{◌≡◌, ◌<◌, sym, subst, ap, cond, ◌∙◌, arith}
+use Rattle.std.proofs.Common.{◌<◌, sym, subst, ap, cond, arith}
 use Rattle.std.proofs.lemmas.Bool.{lt-ltb}
 use Rattle.std.proofs.lemmas.Result.{IfOk-weaker}
 use Rattle.world_model.specs.Rules.Acts.{stays}

@@ -1,7 +1,8 @@
-use Rattle.std.proofs.Common.{◌++◌, map, drop}
+use Rattle.std.proofs.Common.{◌++◌, ◌∙◌, ap, map, drop}
 use Rattle.std.specs.Option.{option_to_list}
 use Rattle.entry_frames.specs.MessageParts.{body_of, entries_of}
 use Rattle.entry_frames.specs.Records.{Add, Cut}
+use Rattle.node_core.specs.Acting.{is_preparing}
 use Rattle.node_core.specs.Appending.{value_record}
 use Rattle.node_core.proofs.Recorded.{both_recorded, may_front, may_rest}
 use Rattle.node_core.proofs.act.Act.change_log.Goals as goal
@@ -12,8 +13,14 @@ complete-requires-clause-may c =
     may_front c.args.self.member (map (value_record frame) c.args.wholes.now)
     (map Cut (option_to_list c.args.cut) ++ map Add (drop c.args.first_new (entries_of (body_of frame)))) c.requires.may
 
-pub cut-requires : goal.cut-requires
-cut-requires c =
+pub cut-requires-clause-free : goal.cut-requires-clause-free
+cut-requires-clause-free c = ap is_preparing c.in_ok-act.ensures.role ∙ c.requires.free
+
+pub add-requires-clause-free : goal.add-requires-clause-free
+add-requires-clause-free c = ap is_preparing (c.in_ok-act-2.ensures.role ∙ c.in_ok-act.ensures.role) ∙ c.requires.free
+
+pub cut-requires-clause-may : goal.cut-requires-clause-may
+cut-requires-clause-may c =
     let frame = c.args.append.now.frame in
     let cuts = map Cut (option_to_list c.args.cut) in
     let adds = map Add (drop c.args.first_new (entries_of (body_of frame))) in

@@ -4,13 +4,16 @@ use Rattle.std.proofs.lemmas.List.{drop_all}
 use Rattle.std.proofs.lemmas.Option.{slice_get-get_or}
 use Rattle.entry_frames.specs.Records.{Record}
 use Rattle.full_append.proofs.Lists.{drop_at_place}
-use Rattle.node_core.specs.Acting.{MayRecord, Recorded}
+use Rattle.node_core.specs.Acting.{MayRecord, Recorded, is_preparing}
 use Rattle.node_core.specs.Appending.{value_record}
 use Rattle.node_core.proofs.Recorded.{both_recorded, may_rest, none_recorded}
 use Rattle.node_core.proofs.act.Act.complete.Goals as goal
 
 pub loop-index-init : goal.loop-index-init
 loop-index-init c = ([], none_recorded c.args.self, c.requires.may, refl)
+
+pub complete_one-requires-clause-free : goal.complete_one-requires-clause-free
+complete_one-requires-clause-free c = ap is_preparing c.loop-index.invariant.1.role ∙ c.requires.free
 
 pub loop-index-preserved : goal.loop-index-preserved
 loop-index-preserved c =

@@ -22,4 +22,5 @@ returns c =
       acts = λ n is. subst (λ (r : Record). IsActed (recording r (stays n)) self act) same (c.in_ok-act-in-Some.ensures.acts n is);
       kept = c.in_ok-act-in-Some.ensures.kept ∙ ap (applied self.member.store.kept) same;
       shape = c.in_ok-act-in-Some.ensures.shape;
+      role = c.in_ok-act-in-Some.ensures.role;
     }

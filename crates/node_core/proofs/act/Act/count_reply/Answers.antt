@@ -9,8 +9,8 @@ use Rattle.node_core.proofs.Acting.{acted_after}
 use Rattle.node_core.proofs.Ranging.{hears_silent}
 use Rattle.node_core.proofs.act.Act.count_reply.Goals as goal
 
-pub lead_if_won-requires-clause-ranged : goal.lead_if_won-requires-clause-ranged
-lead_if_won-requires-clause-ranged c =
+pub prepare_if_won-requires-clause-ranged : goal.prepare_if_won-requires-clause-ranged
+prepare_if_won-requires-clause-ranged c =
     let r = c.requires.ranged in
     let item = vote_heard r.node c.args.sender c.args.granted in record {
       node = node_hearing item r.node;
@@ -19,10 +19,10 @@ lead_if_won-requires-clause-ranged c =
     }
 
 pub returns-in-Candidate : goal.returns-in-Candidate
-returns-in-Candidate c = IfOk-weaker c.lead_if_won.result _ _ (λ x counted n is.
+returns-in-Candidate c = IfOk-weaker c.prepare_if_won.result _ _ (λ x counted n is.
     let candidate : n.volatile.role ≡ Candidate = sym is.stands.of_role ∙ c.in-Candidate.is in
     let now = node_hearing (vote_heard n c.args.sender c.args.granted) n in
     let first = c.hear_vote.ensures.acts n is in
     subst (λ role. IsActed (act_of_vote_reply_as role n c.args.sender c.args.granted) c.args.self x) (sym candidate)
     (acted_after (stays now) act_of_count c.args.self c.hear_vote.result x first (counted now first.node)))
-    c.lead_if_won.ensures
+    c.prepare_if_won.ensures

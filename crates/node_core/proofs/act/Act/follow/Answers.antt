@@ -21,12 +21,12 @@ carry_out-requires-clause-may c =
     let of_node : DurableInRange m.store.shape m.store.kept =
     subst (λ (s : Shape). DurableInRange s m.store.kept) (sym r.is.of_store) (subst (λ (d : Durable). DurableInRange r.node.shape d) (sym r.is.stands.of_durable) r.ranged.durable) in
     let keeps : DurableInRange c.hear_leader.new.self.store.shape c.hear_leader.new.self.store.kept =
-    subst (λ (s : Stored). DurableInRange s.shape s.kept) (sym c.hear_leader.ensures.store) of_node in
+    subst (λ (s : Stored). DurableInRange s.shape s.kept) (sym c.hear_leader.ensures.becomes.store) of_node in
     let said : IsStretch m.store.shape.need m.store.kept.term (prev_of body) (prev_term_of body) (entries_of body) =
     subst (λ term. IsStretch m.store.shape.need term (prev_of body) (prev_term_of body) (entries_of body)) c.requires.append.current.term
     (stretch_in m.store.shape frame c.requires.append.kind c.requires.append.current.spelled) in
     may_take c.hear_leader.new.self frame keeps
-    (subst (λ (s : Stored). IsStretch s.shape.need s.kept.term (prev_of body) (prev_term_of body) (entries_of body)) (sym c.hear_leader.ensures.store) said)
+    (subst (λ (s : Stored). IsStretch s.shape.need s.kept.term (prev_of body) (prev_term_of body) (entries_of body)) (sym c.hear_leader.ensures.becomes.store) said)
 
 pub returns : goal.returns
 returns c = IfOk-weaker c.carry_out.result _ _ (λ x carried n is.
@@ -34,9 +34,9 @@ returns c = IfOk-weaker c.carry_out.result _ _ (λ x carried n is.
     let body = body_of frame in
     let now = record n { volatile = following (sender_byte frame) n } in
     let between = record c.args.self { member = c.hear_leader.new.self } in
-    acted_from (act_of_heard_append (sender_byte frame) (prev_of body) (prev_term_of body) (commit_of body) (entries_of body) now) c.args.self between x refl c.hear_leader.ensures.store
-    (carried now (subst (λ leader. IsNode c.hear_leader.new.self (record n { volatile = following leader n })) c.from.ensures (c.hear_leader.ensures.node n is))))
+    acted_from (act_of_heard_append (sender_byte frame) (prev_of body) (prev_term_of body) (commit_of body) (entries_of body) now) c.args.self between x refl c.hear_leader.ensures.becomes.store
+    (carried now (subst (λ leader. IsNode c.hear_leader.new.self (record n { volatile = following leader n })) c.from.ensures (c.hear_leader.ensures.becomes.node n is))))
     c.carry_out.ensures
 
 pub carry_out-requires-clause-stands : goal.carry_out-requires-clause-stands
-carry_out-requires-clause-stands c = let r = c.requires.ranged in (record r.node { volatile = following c.from.result r.node }, c.hear_leader.ensures.node r.node r.is)
+carry_out-requires-clause-stands c = let r = c.requires.ranged in (record r.node { volatile = following c.from.result r.node }, c.hear_leader.ensures.becomes.node r.node r.is)

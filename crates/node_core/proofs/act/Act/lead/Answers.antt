@@ -5,11 +5,14 @@ use Rattle.world_model.specs.Nodes.{Node}
 use Rattle.world_model.specs.Rules.Prepare.{act_of_beginning, act_of_noop}
 use Rattle.world_model.specs.Rules.Say.{appends_to_others}
 use Rattle.world_model.proofs.Ranges.Knowing.{knows_as}
-use Rattle.node_core.specs.Acting.{IsActed, IsNode}
+use Rattle.node_core.specs.Acting.{IsActed, IsNode, is_preparing}
 use Rattle.node_core.proofs.Acting.{become_after, sent_after}
 use Rattle.node_core.proofs.Choosing.{begun_from, begun_node}
 use Rattle.node_core.proofs.Ranging.{beginning_starts}
 use Rattle.node_core.proofs.act.Act.lead.Goals as goal
+
+pub add_noop-requires-clause-free : goal.add_noop-requires-clause-free
+add_noop-requires-clause-free c = ap is_preparing c.requires.candidate
 
 pub append_to_others-requires : goal.append_to_others-requires
 append_to_others-requires c =

@@ -1,11 +1,11 @@
-use Rattle.std.proofs.Common.{◌≡◌, ◌≤◌, length, refl, sym, subst, ◌∙◌}
+use Rattle.std.proofs.Common.{◌≡◌, ◌≤◌, length, refl, ap, sym, subst, ◌∙◌}
 use Rattle.std.proofs.lemmas.Result.{IfOk-weaker}
 use Rattle.craft_base.specs.Shape.{Shape, IsShape}
 use Rattle.entry_frames.specs.declared.role.Role.TheVariants.{Leader}
 use Rattle.world_model.specs.Rules.Applying.{act_of_commit}
 use Rattle.world_model.specs.Rules.Matched.{act_of_next, commit_of_leader}
 use Rattle.world_model.proofs.Ranges.Applying.{commit_in_range, commit_keeps}
-use Rattle.node_core.specs.Acting.{IsActed}
+use Rattle.node_core.specs.Acting.{IsActed, is_preparing}
 use Rattle.node_core.proofs.Acting.{acted_after}
 use Rattle.node_core.proofs.Ranging.{may_say}
 use Rattle.node_core.proofs.Serving.{is_served}
@@ -27,6 +27,9 @@ returns c = IfOk-weaker c.append_if_any.result _ _ (λ x said n is.
     let first = subst (λ index. IsActed (act_of_commit index n) c.args.self c.in_ok-act.act) (c.commit_of_leader-commit.ensures.value n is) (c.in_ok-act.ensures n is) in
     acted_after act (act_of_next c.args.member) c.args.self c.in_ok-act.act x first (said act.node first.node))
     c.append_if_any.ensures
+
+pub commit_to-requires-clause-free : goal.commit_to-requires-clause-free
+commit_to-requires-clause-free c = ap is_preparing c.requires.leads
 
 pub commit_to-requires-clause-served : goal.commit_to-requires-clause-served
 commit_to-requires-clause-served c = let r = c.requires.ranged in is_served c.args.self.member r.node r.is

@@ -1,4 +1,4 @@
-use Rattle.std.proofs.Common.{◌≡◌, ◌+◌, ◌≤◌, ℕ, length, ap, sym, subst, ◌∙◌, arith}
+use Rattle.std.proofs.Common.{◌≡◌, ◌+◌, ℕ, length, ap, sym, subst, arith}
 use Rattle.node_core.specs.declared.act.Act.{Act}
 use Rattle.node_core.specs.Serving.{Serves}
 use Rattle.node_core.proofs.Serving.{none_served, one_more_served}

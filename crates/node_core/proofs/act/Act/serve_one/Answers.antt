@@ -1,12 +1,12 @@
-use Rattle.std.proofs.Common.{◌≡◌, ◌<◌, ◌+◌, ◌++◌, ℕ, suc, List, length, take, Option, Some, ap, sym, subst, ◌∙◌, arith, add-one}
+use Rattle.std.proofs.Common.{◌≡◌, ◌<◌, ◌+◌, ◌++◌, ℕ, List, length, Option, Some, ap, sym, subst, ◌∙◌, arith, add-one}
 use Rattle.std.specs.Option.{option_to_list}
 use Rattle.entry_frames.specs.Logs.{entry_at}
-use Rattle.kv_apply.specs.Commands.{answer, heads_of}
+use Rattle.kv_apply.specs.Commands.{answer}
 use Rattle.kv_apply.specs.Services as services
 use Rattle.kv_apply.specs.Services.{count_of}
 use Rattle.kv_apply.specs.declared.outcome.Outcome.{Outcome}
 use Rattle.kv_apply.specs.declared.service.Service.{Service}
-use Rattle.world_model.specs.Rules.Applying.{call_at, newly_committed, replies_among}
+use Rattle.world_model.specs.Rules.Applying.{call_at}
 use Rattle.world_model.specs.declared.call.ClientReply.{ClientReply}
 use Rattle.node_core.specs.declared.act.Act.{Act}
 use Rattle.node_core.specs.declared.member.Member.{Member}

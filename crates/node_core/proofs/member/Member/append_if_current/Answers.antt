@@ -1,8 +1,6 @@
 use Rattle.std.proofs.Common.{◌≡◌, ℕ, ◌++◌, ◌∷◌, [], List, Bool, true, false, cond, map, length, sym, ap, ◌∙◌, append-nil}
-use Rattle.std.specs.Prelude.{◌==◌}
 use Rattle.std.proofs.lemmas.Bool.{eq-eqb, ne_eqb}
 use Rattle.entry_frames.specs.declared.message.Message.{Message}
-use Rattle.world_model.specs.Nodes.{Node}
 use Rattle.world_model.specs.Rules.Say.{append_to}
 use Rattle.node_core.specs.Calling.{is_current}
 use Rattle.node_core.proofs.member.Member.append_if_current.Goals as goal

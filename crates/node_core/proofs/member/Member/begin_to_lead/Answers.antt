@@ -15,6 +15,7 @@ returns c = record {
           of_hint = ap (λ me. Some me) s.of_me;
           of_heard = c.lead.ensures.heard n.shape n.volatile.heard n.volatile.first s.of_heard;
           settled = omega (arith, c.lead.ensures.settled, c.commit.ensures, s.settled, ap (λ d. d.commit) s.of_durable);
+          of_prep = tt;
           of_calls = s.of_calls;
         };
         of_store = is.of_store;

@@ -2,7 +2,7 @@ use Rattle.std.proofs.Common.{refl, subst, arith}
 use Rattle.std.proofs.lemmas.List.Elements.{All-nil}
 use Rattle.entry_frames.specs.Stored.{DurableInRange}
 use Rattle.world_model.specs.Nodes.{started}
-use Rattle.world_model.specs.Ranges.{CallInRange, IsOfNoLog}
+use Rattle.world_model.specs.Ranges.{CallInRange, IsOfNoLog, PageInRange}
 use Rattle.node_core.proofs.running.Core.boot.Goals as goal
 
 pub invariant_of-result : goal.invariant_of-result
@@ -18,6 +18,7 @@ invariant_of-result c = record {
       of_hint = refl;
       of_heard = c.in_ok-heard.ensures.nothing;
       settled = omega (arith, c.in_ok-heard.ensures.settled);
+      of_prep = tt;
       of_calls = c.new-2.ensures.items;
     };
     of_store = c.requires.store;
@@ -30,5 +31,6 @@ invariant_of-result c = record {
     durable = subst (λ s. DurableInRange s c.args.store.kept) c.requires.store c.law.ensures;
     clients = (tt, All-nil CallInRange);
     knows = All-nil IsOfNoLog;
+    pages = All-nil (PageInRange c.args.shape.now.need);
   };
 }
