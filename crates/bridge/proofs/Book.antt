@@ -10,6 +10,8 @@ pub mod Plain
 pub mod Sent
 pub mod Adding
 pub mod Leading
+pub mod Filling
+pub mod Asking
 pub mod Called
 pub mod Committed
 pub mod Append

@@ -1,16 +1,22 @@
 -- Runs of three members: in one a member is elected, in one an entry is committed, in one an entry is removed, in one a client is
 -- answered.
-use Rattle.std.proofs.Common.{ℕ, zero, suc, ◌<◌, ◌≤◌, List, [], ◌∷◌, slice_index, refl, inl, arith}
+use Rattle.std.proofs.Common.{◌≡◌, ℕ, zero, suc, ◌<◌, ◌≤◌, ◌&&◌, ◌||◌, ◌==◌, nat_lt, not, Bool, true, List, [], ◌∷◌, slice_index, refl, sym, ap, subst, ◌∙◌, inl, inr, arith}
 use Rattle.std.specs.List.{All}
-use Rattle.std.proofs.lemmas.Bool.{true≢false}
+use Rattle.std.proofs.lemmas.Bool.{and_from, and_parts, eq-eqb, ltb-true, true≢false}
 use Rattle.std.proofs.lemmas.List.Elements.{All-nil, All-cons}
 use Rattle.craft_base.specs.declared.command.Op.{Op}
 use Rattle.craft_base.specs.declared.command.Op.TheVariants.{Put, Get}
 use Rattle.craft_base.specs.declared.command.Request.{Request}
 use Rattle.entry_frames.specs.Formats.{AreBytes}
+use Rattle.kv_apply.specs.Commands.{is_of}
 use Rattle.world_model.specs.Calls.{IsRequest}
+use Rattle.world_model.specs.Order.{IsTakenAfter}
+use Rattle.world_model.specs.Rules.Call.{entry_for}
+use Rattle.world_model.specs.Rules.Prepare.{noop}
 use Rattle.world_model.specs.Safety.{IsRun}
 use Rattle.world_model.specs.Spelling.{IsLineOf}
+use Rattle.world_model.specs.Traces.{Proposal, command_of}
+use Rattle.world_model.specs.World.{run}
 use Rattle.world_model.specs.declared.line.Inner.TheVariants.{Tick, Take, Call}
 use Rattle.world_model.specs.declared.line.Line.{Line}
 use Rattle.world_model.specs.declared.line.Line.TheVariants.{Do}
@@ -136,5 +142,39 @@ clients_in_range =
     (calls (asks 2 Get []) get_in_range (takes 9 (omega arith) (omega arith) (takes 10 (omega arith) (omega arith)
     (calls (asks 1 Put (1 ∷ 2 ∷ [])) put_in_range no_more)))))))))
 
+-- whether a proposal is of another request, or of a later event
+abbrev is_after : (event client seq : ℕ) → Proposal → Bool
+is_after event client seq p = not (is_of client p.command.head && (p.command.head.seq == seq)) || nat_lt event p.event
+
+abbrev are_after : (event client seq : ℕ) → List Proposal → Bool
+are_after event client seq [] = true
+are_after event client seq (p ∷ book) = is_after event client seq p && are_after event client seq book
+
+taken_after : (event client seq : ℕ) (book : List Proposal) → are_after event client seq book ≡ true → IsTakenAfter book event client seq
+taken_after event client seq [] all p among of number = absurd among
+taken_after event client seq (first ∷ book) all p among of number =
+    let both = and_parts (is_after event client seq first) _ all in
+    elim among [
+      | inl same ↦
+          let here : is_after event client seq p ≡ true = ap (is_after event client seq) same ∙ both.0 in
+          let asked : (is_of client p.command.head && (p.command.head.seq == seq)) ≡ true = and_from _ _ of (eq-eqb p.command.head.seq seq number) in
+          ltb-true event p.event (ap (λ (test : Bool). not test || nat_lt event p.event) (sym asked) ∙ here)
+      | inr later ↦ taken_after event client seq book both.1 p later of number
+    ]
+
+-- what is proposed in it: the empty entry, and the two requests
+abbrev proposed : List Proposal
+proposed =
+    record { term = 1; index = 1; event = 5; command = command_of (noop 1) }
+    ∷ record { term = 1; index = 2; event = 6; command = command_of (entry_for 1 (asks 1 Put (1 ∷ 2 ∷ []))) }
+    ∷ record { term = 1; index = 3; event = 11; command = command_of (entry_for 1 (asks 2 Get [])) } ∷ []
+
+clients_propose : (run three clients).book ≡ proposed
+clients_propose = refl
+
+-- the put was answered in event 10
+get_after_put : IsTakenAfter (run three clients).book 10 7 2
+get_after_put = subst (λ book. IsTakenAfter book 10 7 2) (sym clients_propose) (taken_after 10 7 2 proposed refl)
+
 pub some_run_answers : SomeRunAnswers
-some_run_answers = (clients, _, _, _, runs clients_in_range, refl, refl, refl, omega arith, refl, refl, refl, refl)
+some_run_answers = (clients, _, _, _, runs clients_in_range, refl, refl, refl, omega arith, refl, get_after_put, refl, refl, refl)

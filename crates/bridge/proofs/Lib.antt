@@ -18,6 +18,7 @@ pub mod Masks
 pub mod Steps
 pub mod Acknowledging
 pub mod Proposing
+pub mod Filling
 pub mod Restarting
 pub mod Remaining
 pub mod Deciding
@@ -35,5 +36,6 @@ pub mod Growing
 pub mod Replies
 pub mod Furthest
 pub mod Rebuilt
+pub mod Order
 pub mod Safe
 pub mod Examples

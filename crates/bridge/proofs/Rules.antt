@@ -1,5 +1,6 @@
 -- One file for each rule of a turn: the moves that it makes.
 pub mod Say
+pub mod Want
 pub mod Tick
 pub mod Terms
 pub mod Vote

@@ -1,6 +1,6 @@
 -- Every run is safe: one list of commands is committed, it stays, no entry is removed that a leader of the remover's term or of a lower
 -- one commits, clients are answered as by one map that took the list, and no term has two leaders.
-use Rattle.std.proofs.Common.{◌≡◌, ◌≢◌, ℕ, zero, suc, ◌+◌, ◌<◌, ◌≤◌, List, [], ◌∷◌, ◌++◌, length, take, drop, None, Some, slice_get, refl, sym, ap, subst, ◌∙◌, inl, inr, arith, le_refl, length-take-le}
+use Rattle.std.proofs.Common.{◌≡◌, ◌≢◌, ℕ, zero, suc, ◌+◌, ◌<◌, ◌≤◌, List, [], ◌∷◌, ◌++◌, length, map, take, drop, None, Some, slice_get, refl, sym, ap, subst, ◌∙◌, inl, inr, arith, le_refl, length-take-le}
 use Rattle.std.proofs.lemmas.Bool.{cases_lt}
 use Rattle.std.proofs.lemmas.List.{take-append-drop, take_all}
 use Rattle.std.proofs.lemmas.Option.{same_Some, slice_get_past, slice_get_within}
@@ -8,8 +8,9 @@ use Rattle.craft_base.specs.Shape.{Shape}
 use Rattle.craft_base.specs.declared.command.Entry.{Entry}
 use Rattle.entry_frames.specs.Durable.{Durable, born}
 use Rattle.entry_frames.specs.Logs as node
+use Rattle.world_model.specs.Order.{IsOrdered}
 use Rattle.world_model.specs.Safety.{HoldsCommitted, IsFront, IsRun, IsSafe, RemovesUncommitted, StaysCommitted, command_in, commands_of, committed, furthest, StandsFor}
-use Rattle.world_model.specs.Traces.{Proposal}
+use Rattle.world_model.specs.Traces.{Command, Proposal}
 use Rattle.world_model.specs.World.{World, run, run_from, start}
 use Rattle.world_model.specs.declared.line.Line.{Line}
 use Rattle.world_model.proofs.Runs.{run_from-append}
@@ -25,9 +26,11 @@ use Rattle.bridge.proofs.Book.Standing.{command_in_more, stand_place, stand_take
 use Rattle.bridge.proofs.Furthest.{IsCommitted, at_position, furthest_committed, furthest_each, member_committed}
 use Rattle.bridge.proofs.Growing.{HasMore, run_grows}
 use Rattle.bridge.proofs.Leaders.{one_leader_a_term}
+use Rattle.bridge.proofs.Order.{world_is_ordered}
 use Rattle.bridge.proofs.Rebuilt.{rebuilds_committed}
 use Rattle.bridge.proofs.Replies.Lists.{is_in, taken_there}
 use Rattle.bridge.proofs.Replies.Runs.{answers_as_one_map, run_answers, start_answers}
+use Rattle.bridge.proofs.Replies.World.{WorldAnswers}
 use Rattle.bridge.proofs.Runs.{history_reached, moves_between, runs_are_bridged}
 use Rattle.bridge.proofs.Views.{term_at_seen}
 
@@ -160,6 +163,13 @@ module _ {shape : Shape} {events : List Line} (r : RunBridged shape protocol.sta
       committed_stays (end_reached count) (moves_between r count (length events)) (r.agrees count) (end_agrees (count + length events) (omega arith))
       (end_reached (count + length events)) (subst (HasMore front.book) is grown)
 
+-- clients are answered of what is committed in the end
+run_is_answered : (shape : Shape) (events : List Line) → IsRun shape events → WorldAnswers (committed (run shape events)) (run shape events)
+run_is_answered shape events is =
+    let r : RunBridged shape protocol.start (start shape) events = runs_are_bridged shape events is in
+    run_answers shape (committed (run shape events)) events (start shape) (start_answers shape (committed (run shape events))) is.in_range
+    (λ count. holds_committed (end_reached r count) (r.agrees count)) (stays_committed r)
+
 -- what the crates above cite
 pub every_run_is_safe : (shape : Shape) (events : List Line) → IsRun shape events → IsSafe shape events
 every_run_is_safe shape events is =
@@ -171,9 +181,11 @@ every_run_is_safe shape events is =
       stays = stays_committed r;
       rebuilds = rebuilds_committed reached agrees;
       removes = removes_uncommitted reached agrees;
-      replies =
-          answers_as_one_map reached agrees
-          (run_answers shape (committed (run shape events)) events (start shape) (start_answers shape (committed (run shape events))) is.in_range
-          (λ count. holds_committed (end_reached r count) (r.agrees count)) (stays_committed r));
+      replies = answers_as_one_map reached agrees (run_is_answered shape events is);
       one_leader = one_leader_a_term shape events is;
     }
+
+pub every_run_is_ordered :
+    (shape : Shape) (events : List Line) → IsRun shape events → (commands : List Command) → committed (run shape events) ≡ map Some commands →
+    IsOrdered (run shape events) commands
+every_run_is_ordered shape events is commands are = world_is_ordered (run shape events) commands are (run_is_answered shape events is)

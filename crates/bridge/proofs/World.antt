@@ -22,8 +22,9 @@ use Rattle.protocol.proofs.Runs.{moves_trans}
 use Rattle.bridge.specs.Agreement.{HeardAgrees, MessageAgrees, NodeAgrees, WorldAgrees}
 use Rattle.bridge.specs.Bridges.{TurnBridged, WorldBridged}
 use Rattle.bridge.specs.Traced.{AllStand, MessageStands, PageStands, holder}
+use Rattle.bridge.proofs.Book.Asking.{act_turned, tick_turned}
 use Rattle.bridge.proofs.Book.Called.{call_turned}
-use Rattle.bridge.proofs.Book.Turn.{message_turned, tick_turned}
+use Rattle.bridge.proofs.Book.Turn.{message_turned}
 use Rattle.bridge.proofs.Members.{changed_bridged, turned_bridged}
 use Rattle.bridge.proofs.Restarting.{restarted_agrees, restarts}
 use Rattle.bridge.proofs.Steps.{own_none}
@@ -44,9 +45,11 @@ module _
     -- a message that was sent can be told to its receiver
     aim_agrees : (inner : Inner) → IsInnerOf shape inner → (aim : Aim) → aim_of w inner ≡ Some aim → IsTold shape g w.book aim
     aim_agrees (inners.Tick member word) within aim e = subst (IsTold shape g w.book) (same_Some _ _ e)
-        (λ n agrees stand seen. tick_turned word reached agrees stand seen)
+        (λ n agrees stand seen. act_turned (turns.Tick word) n (tick_turned word reached agrees stand seen))
     aim_agrees (inners.Call member request) within aim e = subst (IsTold shape g w.book) (same_Some _ _ e)
-        (λ n agrees stand seen. call_turned n reached agrees stand seen a.proposals request.client request (All-from_get_or (λ byte. byte < 256) request.value 0 (λ i lt. within.2.value_bytes.each i)) is)
+        (λ n agrees stand seen.
+        act_turned (turns.Call request.client request) n
+        (call_turned n reached agrees stand seen a.proposals request.client request (All-from_get_or (λ byte. byte < 256) request.value 0 (λ i lt. within.2.value_bytes.each i)) is))
     aim_agrees (inners.Take frame) within aim e = delivered (slice_get w.sent (frame - 1)) refl e where
       delivered :
           (found : Option Message) → slice_get w.sent (frame - 1) ≡ found → option_map delivery_of found ≡ Some aim → IsTold shape g w.book aim
@@ -57,7 +60,7 @@ module _
           let stands_at : MessageStands shape w.book (get_or w.sent (frame - 1) m) = a.stand (frame - 1) m (slice_get_within w.sent (frame - 1) m here) in
           let stands : MessageStands shape w.book m = subst (MessageStands shape w.book) (get_or_from_slice_get w.sent (frame - 1) m m here) stands_at in
           subst (IsTold shape g w.book) (same_Some _ _ is_aim)
-          (λ n agrees stand seen. message_turned m reached is agrees told stand seen a.proposals stands)
+          (λ n agrees stand seen. act_turned (turns.Frame m) n (message_turned m reached is agrees told stand seen a.proposals stands))
 
     turn_as_bridged :
         (aim : Aim) → IsTold shape g w.book aim → (d : Durable) (running : Option Volatile) →

@@ -4,6 +4,7 @@ use Rattle.craft_base.specs.Shape.{Shape}
 use Rattle.craft_base.specs.declared.command.Entry.{Entry}
 use Rattle.craft_base.specs.declared.command.Reply.TheVariants as replies
 use Rattle.entry_frames.specs.Logs.{entry_at}
+use Rattle.world_model.specs.Order.{IsTakenAfter}
 use Rattle.world_model.specs.Safety.{EverLed, IsIn, IsRun, OneLeaderATerm, committed}
 use Rattle.world_model.specs.Traces.{Command, LeaderCommit, Removal, Replied}
 use Rattle.world_model.specs.World as world
@@ -44,10 +45,11 @@ SomeRunRemoves =
     × IsIn cut (world.run three events).cuts × IsIn commit (world.run three events).commits × (commit.term ≤ cut.term)
     × (slice_get cut.entries 0 ≡ Some removed) × (entry_at commit.log cut.index ≡ Some kept) × (removed.term ≢ kept.term)
 
--- and one in which a client is told that its put was done, then what it set, as it asks under a greater number, and then that the
--- number of its put is old, as it asks under that again
+-- and one in which a client is told that its put was done, then what it set, as it asks under a greater number for the first time, and
+-- then that the number of its put is old, as it asks under that again
 abbrev pub SomeRunAnswers : Type 0
 SomeRunAnswers =
     (events : List Line) × (put got again : Replied) × IsRun three events × ((world.run three events).replies ≡ put ∷ got ∷ again ∷ [])
     × (put.client ≡ got.client) × (put.client ≡ again.client) × (put.seq < got.seq) × (put.seq ≡ again.seq)
+    × IsTakenAfter (world.run three events).book put.event got.client got.seq
     × (put.reply ≡ replies.Done 2) × (got.reply ≡ replies.Value 2 (1 ∷ 2 ∷ [])) × (again.reply ≡ replies.Old)

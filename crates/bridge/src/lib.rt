@@ -29,7 +29,8 @@ pub fn some_run_commits()
     ensures removes { SomeRunRemoves }
 {}
 
-/// There is a run in which a client is told that its put was done, what it set, and that the number of its put is old.
+/// There is a run in which a client is told that its put was done, what it set, as it asks for the first time after that, and that the
+/// number of its put is old.
 pub fn some_run_answers()
     ensures { SomeRunAnswers }
 {}

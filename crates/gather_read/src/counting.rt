@@ -11,9 +11,9 @@ ghost use Rattle.leader_prep.specs.Rebuilders.{IsPartOf, with_parts};
 ghost use Rattle.leader_prep.specs.Verdicts.{first_whole, form_in, part_in, parts_of, rebuilding_by, usable_form, verdict_of_parts, whole_in};
 
 use crate::gather::Gather;
-use crate::heads::is_usable;
 use craft_base::{Blob, OutOfMemory};
 use entry_frames::EntryView;
+use leader_prep::is_usable;
 use rs_code::Rebuilder;
 
 impl Gather {

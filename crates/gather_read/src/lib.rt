@@ -3,7 +3,6 @@
 
 mod counting;
 mod gather;
-mod heads;
 mod own_entry;
 mod slots;
 

@@ -9,6 +9,7 @@ mod prep;
 mod slots;
 mod verdicts;
 
+pub use heads::{is_same_head, is_usable};
 pub use prep::Prep;
 pub use verdicts::Verdicts;
 

@@ -9,7 +9,7 @@ use Rattle.heard_book.specs.Kept as known
 use Rattle.kv_apply.specs.Services as services
 use Rattle.world_model.specs.Nodes.{Node}
 use Rattle.world_model.specs.Rules.Prepare.{cursor_at}
-use Rattle.world_model.specs.Rules.Applying.{act_of_applying, newly_committed, replies_among}
+use Rattle.world_model.specs.Rules.Applying.{act_of_applying, newly_committed, reads_among, replies_among}
 use Rattle.world_model.specs.declared.call.Called.{Called}
 use Rattle.node_core.specs.declared.act.Act.{Act}
 use Rattle.node_core.specs.declared.member.Member.{Member}
@@ -26,10 +26,10 @@ module _
     (above : before.member.store.kept.commit < index) (within : index ≤ length before.member.store.kept.log) (fits : Fits (record_fields before.member.store.shape.need) (Commit index))
     (free : IsFree before.member) where
   -- the member as it was made, by what it was
-  made_member : made.member ≡ record before.member { store = made.member.store; service = served.member.service }
+  made_member : made.member ≡ record before.member { store = made.member.store; service = served.member.service; reads = served.member.reads }
   made_member = is_made.member ∙ ap (λ (a : Act). record a.member { store = made.member.store }) serves.rest
 
-  member_now : after.member ≡ record before.member { store = made.member.store; service = served.member.service; heard = after.member.heard; calls = after.member.calls }
+  member_now : after.member ≡ record before.member { store = made.member.store; service = served.member.service; reads = served.member.reads; heard = after.member.heard; calls = after.member.calls }
   member_now = ap (λ (a : Act). a.member) only ∙ ap (λ (m : Member). record m { heard = after.member.heard; calls = after.member.calls }) made_member
 
   kept_now : made.member.store.kept ≡ applied before.member.store.kept (Commit index)
@@ -42,6 +42,14 @@ module _
     applying : services.Stands before.member.service (heads_up_to before.member.store.kept.commit before.member.store.kept)
     applying = subst (λ (d : Durable). services.Stands before.member.service (heads_up_to d.commit d)) (sym is.stands.of_durable) is.of_service
 
+    reads_now : served.member.reads.items ≡ reads_among n.durable.log n.volatile.calls (newly_committed n.durable.commit index) n.volatile.reads
+    reads_now =
+        let s = is.stands in
+        serves.reads applying
+        ∙ ap (λ (d : Durable). reads_among d.log before.member.calls.items (newly_committed d.commit index) before.member.reads.items) s.of_durable
+        ∙ ap (λ (cs : List Called). reads_among n.durable.log cs (newly_committed n.durable.commit index) before.member.reads.items) s.of_calls
+        ∙ ap (reads_among n.durable.log n.volatile.calls (newly_committed n.durable.commit index)) s.of_reads
+
     node_now : IsNode after.member (act_of_applying index n).node
     node_now =
         let m = before.member in
@@ -50,7 +58,7 @@ module _
         let calls : made.member.calls.items ≡ n.volatile.calls = ap (λ (x : Member). x.calls.items) made_member ∙ s.of_calls in
         let settled_before : made.member.heard.window.settled ≡ m.heard.window.settled = ap (λ (x : Member). x.heard.window.settled) made_member in
         let commit : m.store.kept.commit ≡ n.durable.commit = ap (λ (d : Durable). d.commit) s.of_durable in
-        let now : IsNode (record m { store = made.member.store; service = served.member.service; heard = after.member.heard; calls = after.member.calls }) node = record {
+        let now : IsNode (record m { store = made.member.store; service = served.member.service; reads = served.member.reads; heard = after.member.heard; calls = after.member.calls }) node = record {
           stands = record {
             of_shape = s.of_shape;
             of_me = s.of_me;
@@ -62,7 +70,9 @@ module _
                 (subst (λ (h : known.Kept). known.Stands h n.shape n.volatile.heard n.volatile.first) (sym (ap (λ (x : Member). x.heard) made_member)) s.of_heard);
             settled = omega (arith, settled, settled_before, s.settled, commit, above);
             of_prep = free_shown m.prep n.shape n.me n.volatile.pages m.role (cursor_at node) free;
+            of_gather = s.of_gather;
             of_calls = waits ∙ ap (λ (cs : List Called). filter (λ c. nat_lt index c.index) cs) calls;
+            of_reads = reads_now;
           };
           of_store = shape_now ∙ is.of_store;
           of_service = subst (λ (d : Durable). services.Stands served.member.service (heads_up_to index d)) s.of_durable (serves.service applying);

@@ -37,7 +37,7 @@ has_room n room = ap (λ b. cond b (recording (Add (noop n.durable.term)) (stays
 
 -- it begins to lead from behind what it had
 abbrev pub begun_from : ℕ → Node → Node
-begun_from first n = record n { volatile = record n.volatile { role = Leader; hint = Some n.me; first = first; pages = [] } }
+begun_from first n = record n { volatile = record n.volatile { role = Leader; hint = Some n.me; first = first; pages = []; want = None } }
 
 pub begun_node : (n : Node) (first : ℕ) → first ≡ length n.durable.log + 1 → begun_from first (act_of_noop n).node ≡ (act_of_beginning n).node
 begun_node n first is =

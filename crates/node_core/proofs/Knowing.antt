@@ -27,7 +27,9 @@ knows_node m heard list n is stands settled =
         of_heard = stands;
         settled = settled;
         of_prep = s.of_prep;
+        of_gather = s.of_gather;
         of_calls = s.of_calls;
+        of_reads = s.of_reads;
       };
       of_store = is.of_store;
       of_service = is.of_service;

@@ -1,12 +1,15 @@
 mod Acting
 mod Knowing
 mod Showing
+mod Gathering
 mod Serving
+mod Wanting
 mod Advancing
 mod Sending
 mod Currents
 mod Batches
 mod Ranging
+mod Having
 mod Choosing
 mod Asking
 mod Recorded

@@ -45,7 +45,7 @@ module _ {shape : Shape} {member : ℕ} {n : Node} (a : NodeInRange shape member
       (subst (λ (role : Role). KnowsInRange role (length n.durable.log) n.volatile.first (item ∷ n.volatile.heard)) (sym leads)
       (leader_hears (length n.durable.log) n.volatile.first item n.volatile.heard ranged (knows_as a Leader leads))) a.pages
 
-  leader_starts : n.volatile.role ≡ Leader → StartsInRange n
+  pub leader_starts : n.volatile.role ≡ Leader → StartsInRange n
   leader_starts leads = λ receiver.
       let knows = knows_as a Leader leads in
       starts_within (mode_of_leader n) receiver n.durable.commit n.durable.log n.volatile.heard n.volatile.first knows.2 (knows.0, knows.1)

@@ -50,7 +50,7 @@ may_rest records more before after may made = record {
 -- ---- what was recorded
 
 pub none_recorded : (act : Act) → Recorded [] act act
-none_recorded act = record { acts = λ n is. stays_acted act n is; kept = refl; shape = refl; role = refl }
+none_recorded act = record { acts = λ n is. stays_acted act n is; kept = refl; shape = refl; role = refl; gather = refl }
 
 pub both_recorded :
     (records more : List Record) (before between after : Act) → Recorded records before between → Recorded more between after → Recorded (records ++ more) before after
@@ -59,6 +59,7 @@ both_recorded records more before between after first second = record {
   kept = second.kept ∙ ap (λ d. durable.after d more) first.kept ∙ sym (after-append before.member.store.kept records more);
   shape = second.shape ∙ first.shape;
   role = second.role ∙ first.role;
+  gather = second.gather ∙ first.gather;
 }
 
 -- ---- places of lists

@@ -20,16 +20,17 @@ use Rattle.kv_apply.specs.declared.outcome.Outcome.{Outcome}
 use Rattle.kv_apply.proofs.Logs.{heads_with}
 use Rattle.world_model.specs.Nodes.{Node}
 use Rattle.world_model.specs.Rules.Acts.{recording, stays}
-use Rattle.world_model.specs.Rules.Applying.{call_at, newly_committed, replies_among, replies_at, replies_for, reply_of, reply_to}
+use Rattle.world_model.specs.Rules.Applying.{call_at, newly_committed, reads_among, reads_at, reads_for, replies_among, replies_at, replies_for, reply_of, reply_to}
 use Rattle.world_model.specs.Rules.Call.{applied_heads}
 use Rattle.world_model.specs.declared.call.Called.{Called}
 use Rattle.world_model.specs.declared.call.ClientReply.{ClientReply}
 use Rattle.world_model.proofs.Ranges.Applying.{heads_long}
 use Rattle.node_core.specs.declared.act.Act.{Act}
 use Rattle.node_core.specs.declared.member.Member.{Member}
-use Rattle.node_core.specs.Acting.{IsActed, IsMade, IsNode, is_commit, MayChange}
+use Rattle.node_core.specs.Acting.{IsActed, IsMade, IsNode, is_commit, MayChange, MayEdit}
+use Rattle.node_core.proofs.Gathering.{still_gathers}
 use Rattle.node_core.proofs.Showing.{still_shown}
-use Rattle.node_core.specs.Serving.{IsServed, Serves, heads_up_to, reply_told}
+use Rattle.node_core.specs.Serving.{IsServed, Serves, heads_up_to, reads_told, reply_told}
 
 -- ---- what is committed of a log
 
@@ -61,8 +62,8 @@ commit_stays d (Commit index) none = absurd cc
 -- a record that was made is that of the rule, unless it moves the commit index
 pub recorded_once :
     (r : Record) (before after : Act) → CanApply before.member.store.shape before.member.store.kept r → Fits (record_fields before.member.store.shape.need) r → is_commit r ≡ false →
-    MayChange before.member r → IsMade r before after → (n : Node) → IsNode before.member n → IsActed (recording r (stays n)) before after
-recorded_once r before after can fits none free made n is =
+    MayChange before.member r → MayEdit before.member r → IsMade r before after → (n : Node) → IsNode before.member n → IsActed (recording r (stays n)) before after
+recorded_once r before after can fits none free edit made n is =
     let m = before.member in
     let s = is.stands in
     let now : Node = record n { durable = applied n.durable r } in
@@ -80,7 +81,9 @@ recorded_once r before after can fits none free made n is =
         of_heard = s.of_heard;
         settled = subst (λ (k : ℕ). m.heard.window.settled ≤ k) (sym (commit_stays n.durable r none)) s.settled;
         of_prep = still_shown m.prep n.shape n.me n.volatile.pages m.role n.durable r free s.of_prep;
+        of_gather = still_gathers n.shape n.me n.volatile.pages n.volatile.want m.role m.gather n.durable r edit s.of_gather;
         of_calls = s.of_calls;
+        of_reads = s.of_reads;
       };
       of_store = made.shape ∙ is.of_store;
       of_service = subst (services.Stands m.service) (sym stay) is.of_service;
@@ -129,6 +132,17 @@ replies-append log calls (index ∷ indexes) more =
     ap (λ told. replies_at log calls index ++ told) (replies-append log calls indexes more)
     ∙ sym (append_assoc (replies_at log calls index) (replies_among log calls indexes) (replies_among log calls more))
 
+-- and who waits for a value then
+pub read_of_entry : (log : List Entry) (call : Option Called) (e : Entry) (earlier : List Head) (reads : List Called) →
+    reads_told log (answer e.head earlier) call reads ≡ reads_for log call (Some e) earlier reads
+read_of_entry log None e earlier reads = refl
+read_of_entry log (Some c) e earlier reads = refl
+
+reads-append : (log : List Entry) (calls : List Called) (indexes more : List ℕ) (reads : List Called) →
+    reads_among log calls (indexes ++ more) reads ≡ reads_among log calls more (reads_among log calls indexes reads)
+reads-append log calls [] more reads = refl
+reads-append log calls (index ∷ indexes) more reads = reads-append log calls indexes more (reads_at log calls index reads)
+
 one_more : (from at : ℕ) → from ≤ at → newly_committed from (at + 1) ≡ newly_committed from at ++ (at + 1) ∷ []
 one_more from at le =
     let longer : at + 1 - from ≡ suc (at - from) = omega (arith, le) in
@@ -143,6 +157,7 @@ none_served from act count = record {
   count = count;
   service = λ stands. stands;
   replies = λ stands. sym (append-nil act.replies.items) ∙ ap (λ indexes. act.replies.items ++ replies_among act.member.store.kept.log act.member.calls.items indexes) (sym (no_more from));
+  reads = λ stands. ap (λ indexes. reads_among act.member.store.kept.log act.member.calls.items indexes act.member.reads.items) (sym (no_more from));
 }
 
 pub one_more_served : (from at : ℕ) (before between after : Act) → from ≤ at → Serves from at before between → Serves at (at + 1) between after → Serves from (at + 1) before after
@@ -154,7 +169,7 @@ one_more_served from at before between after le first second =
     λ stands. subst (λ (a : Act). services.Stands between.member.service (heads_up_to at a.member.store.kept)) (sym first.rest) (first.service stands) in
     let last : newly_committed at (at + 1) ≡ (at + 1) ∷ [] = one_more at at (omega arith) ∙ ap (λ (xs : List ℕ). xs ++ (at + 1) ∷ []) (no_more at) in
     record {
-      rest = second.rest ∙ ap (λ (a : Act). record a { member = record a.member { service = after.member.service }; replies = after.replies }) first.rest;
+      rest = second.rest ∙ ap (λ (a : Act). record a { member = record a.member { service = after.member.service; reads = after.member.reads }; replies = after.replies }) first.rest;
       count = second.count;
       service = λ stands. subst (λ (a : Act). services.Stands after.member.service (heads_up_to (at + 1) a.member.store.kept)) first.rest (second.service (stands_too stands));
       replies = λ stands.
@@ -165,6 +180,13 @@ one_more_served from at before between after le first second =
           ∙ append_assoc before.replies.items (replies_among log calls indexes) (replies_among log calls ((at + 1) ∷ []))
           ∙ ap (λ told. before.replies.items ++ told) (sym (replies-append log calls indexes ((at + 1) ∷ [])))
           ∙ ap (λ (xs : List ℕ). before.replies.items ++ replies_among log calls xs) (sym (one_more from at le));
+      reads = λ stands.
+          second.reads (stands_too stands)
+          ∙ ap (λ (a : Act). reads_among a.member.store.kept.log a.member.calls.items (newly_committed at (at + 1)) between.member.reads.items) first.rest
+          ∙ ap (λ (xs : List ℕ). reads_among log calls xs between.member.reads.items) last
+          ∙ ap (λ reads. reads_among log calls ((at + 1) ∷ []) reads) (first.reads stands)
+          ∙ sym (reads-append log calls indexes ((at + 1) ∷ []) before.member.reads.items)
+          ∙ ap (λ (xs : List ℕ). reads_among log calls xs before.member.reads.items) (sym (one_more from at le));
     }
 
 -- what is told as the next entry is applied
@@ -178,3 +200,14 @@ next_told log calls before e there =
     ∙ ap (λ (k : ℕ). replies_for log (call_at (before + 1) calls) (entry_at log (before + 1)) (heads_of (take k log))) (sym back)
     ∙ sym (append-nil (replies_at log calls (before + 1)))
     ∙ ap (λ (xs : List ℕ). replies_among log calls xs) (sym last)
+
+-- and who waits for a value then
+pub next_read : (log : List Entry) (calls : List Called) (before : ℕ) (e : Entry) (reads : List Called) → entry_at log (suc before) ≡ Some e →
+    reads_for log (call_at (before + 1) calls) (Some e) (heads_of (take before log)) reads ≡ reads_among log calls (newly_committed before (before + 1)) reads
+next_read log calls before e reads there =
+    let here : entry_at log (before + 1) ≡ Some e = ap (entry_at log) (add-one before) ∙ there in
+    let back : before + 1 - 1 ≡ before = omega arith in
+    let last : newly_committed before (before + 1) ≡ (before + 1) ∷ [] = one_more before before (omega arith) ∙ ap (λ (xs : List ℕ). xs ++ (before + 1) ∷ []) (no_more before) in
+    ap (λ (o : Option Entry). reads_for log (call_at (before + 1) calls) o (heads_of (take before log)) reads) (sym here)
+    ∙ ap (λ (k : ℕ). reads_for log (call_at (before + 1) calls) (entry_at log (before + 1)) (heads_of (take k log)) reads) (sym back)
+    ∙ ap (λ (xs : List ℕ). reads_among log calls xs reads) (sym last)

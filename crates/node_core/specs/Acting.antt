@@ -1,12 +1,13 @@
 -- What a member does in the middle of a turn.
-use Rattle.std.specs.Prelude.{◌≡◌, ℕ, ◌+◌, ◌≤◌, List, [], ◌∷◌, ◌++◌, length, Bool, true, false, ◌&&◌}
+use Rattle.std.specs.Prelude.{◌≡◌, ℕ, ◌+◌, ◌≤◌, List, [], ◌∷◌, ◌++◌, length, Bool, true, false, ◌&&◌, Option, Some}
 use Rattle.entry_frames.specs.Durable.{CanApplyAll}
 use Rattle.entry_frames.specs.Durable as durable
 use Rattle.entry_frames.specs.Bodies.{HaveSpellings}
 use Rattle.entry_frames.specs.MessageParts.{term_of}
 use Rattle.entry_frames.specs.Records.{Record, Term, Cut, Whole, Commit, record_spellings}
 use Rattle.entry_frames.specs.declared.role.Role.{Role}
-use Rattle.entry_frames.specs.declared.role.Role.TheVariants.{Preparing}
+use Rattle.entry_frames.specs.declared.role.Role.TheVariants.{Leader, Preparing}
+use Rattle.gather_read.specs.declared.gather.Gather.{Gather}
 use Rattle.kv_apply.specs.Services as services
 use Rattle.peer_frames.specs.FrameViews.{ViewedFrame}
 use Rattle.world_model.specs.Nodes.{Node}
@@ -32,7 +33,9 @@ kept_of m =
       hint = m.hint;
       heard = m.heard;
       prep = m.prep;
+      gather = m.gather;
       calls = m.calls.items;
+      reads = m.reads.items;
     }
 
 -- it stands for the node, and so does its store; and its map is that of the commands of the log up to the commit index
@@ -76,6 +79,15 @@ is_preparing _ = false
 abbrev pub IsFree : Member → Type 0
 IsFree m = is_preparing m.role ≡ false
 
+-- whether a leader keeps what it was shown of a value that it wants
+abbrev pub is_gathering : Role → Option Gather → Bool
+is_gathering Leader (Some gather) = true
+is_gathering _ _ = false
+
+-- it doesn't: what it was shown is of no entry
+abbrev pub IsIdle : Member → Type 0
+IsIdle m = is_gathering m.role m.gather ≡ false
+
 -- these records have spellings, and can be applied in order
 pub record MayRecord (m : Member) (records : List Record) : Type 0 where
   pub apply : CanApplyAll m.store.shape m.store.kept records
@@ -96,6 +108,16 @@ is_of_log _ = true
 -- who prepares decides by its log: only another changes it
 abbrev pub MayChange : Member → Record → Type 0
 MayChange m r = (is_of_log r && is_preparing m.role) ≡ false
+
+-- whether a record changes entries that a log has
+abbrev pub is_of_entries : Record → Bool
+is_of_entries (Cut index) = true
+is_of_entries (Whole index bytes) = true
+is_of_entries _ = false
+
+-- who wants a value knows by its own entry what counts: only another changes entries
+abbrev pub MayEdit : Member → Record → Type 0
+MayEdit m r = (is_of_entries r && is_gathering m.role m.gather) ≡ false
 
 -- from which indexes on records remove entries
 abbrev pub cut_indexes : List Record → List ℕ
@@ -135,9 +157,10 @@ pub record IsActed (act : acts.Act) (before after : Act) : Type 0 where
 abbrev pub Acts : (Node → acts.Act) → Act → Act → Type 0
 Acts rule before after = (n : Node) → IsNode before.member n → IsActed (rule n) before after
 
--- these records were made and carried out, in order, in the same role
+-- these records were made and carried out, in order, in the same role and with the same want
 pub record Recorded (records : List Record) (before after : Act) : Type 0 where
   pub acts : Acts (λ n. acts.recording_all records (acts.stays n)) before after
   pub kept : after.member.store.kept ≡ durable.after before.member.store.kept records
   pub shape : after.member.store.shape ≡ before.member.store.shape
   pub role : after.member.role ≡ before.member.role
+  pub gather : after.member.gather ≡ before.member.gather

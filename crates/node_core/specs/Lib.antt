@@ -4,5 +4,6 @@ pub mod Serving
 pub mod Calling
 pub mod Appending
 pub mod Preparing
+pub mod Wanting
 pub mod Turns
 pub mod Telling

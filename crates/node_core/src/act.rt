@@ -27,7 +27,7 @@ pub(crate) struct Act {
 }
 
 impl Act {
-    ghost use Rattle.node_core.specs.Acting.{Acts, IsMade, MayChange, is_commit, cut_indexes, whole_indexes};
+    ghost use Rattle.node_core.specs.Acting.{Acts, IsMade, MayChange, MayEdit, is_commit, cut_indexes, whole_indexes};
     ghost use Rattle.world_model.specs.Rules.Acts.{answering, recording, sending, stays};
 
     /// Nothing recorded and nothing told yet. The only error is want of memory.
@@ -50,18 +50,20 @@ impl Act {
         })
     }
 
-    /// Records a change of what outlives a crash, and carries it out. What is committed of the log stays, and who prepares changes
-    /// no log. The only error is want of memory.
+    /// Records a change of what outlives a crash, and carries it out. What is committed of the log stays; who prepares changes no
+    /// log, and a leader that wants a value changes none of the entries that it has. The only error is want of memory.
     pub fn record(self, item: &RecordView<'_>) -> Result<Act, OutOfMemory>
         requires k { HasK self.member.store.shape.need item.now }
         requires can { CanApply self.member.store.shape self.member.store.kept (record_of item.now) }
         requires fits { Fits (record_fields self.member.store.shape.need) (record_of item.now) }
         requires stays { is_commit (record_of item.now) ≡ false }
         requires free { MayChange self.member (record_of item.now) }
+        requires idle { MayEdit self.member (record_of item.now) }
         ensures acts { IfOk result (Acts (λ n. recording (record_of item.now) (stays n)) self) }
         ensures kept { IfOk result (λ after. after.member.store.kept ≡ applied self.member.store.kept (record_of item.now)) }
         ensures shape { IfOk result (λ after. after.member.store.shape ≡ self.member.store.shape) }
         ensures role { IfOk result (λ after. after.member.role ≡ self.member.role) }
+        ensures gather { IfOk result (λ after. after.member.gather ≡ self.member.gather) }
     {
         self.make(item)
     }

@@ -6,6 +6,7 @@ ghost use Rattle.heard_book.specs.Kept as known;
 
 use craft_base::{MemberId, OutOfMemory, Shape};
 use entry_frames::RecordView;
+use gather_read::Gather;
 use heard_book::Heard;
 use kv_apply::Service;
 use leader_prep::Prep;
@@ -31,10 +32,14 @@ pub(crate) struct Member {
     pub heard: Heard,
     /// What it has been shown, while it prepares to lead.
     pub prep: Option<Prep>,
+    /// What it has been shown of the value that it wants, while it leads.
+    pub gather: Option<Gather>,
     /// The map after what is committed of its log.
     pub service: Service,
-    /// The requests that it added to its log as a leader and hasn't answered yet.
+    /// The requests that it added to its log as a leader and that aren't applied yet.
     pub calls: Vec<Called>,
+    /// Those that were applied and wait for a value of which it holds a part alone, in order of clients.
+    pub reads: Vec<Called>,
 }
 
 impl Member {
@@ -56,8 +61,10 @@ impl Member {
             hint: self.hint,
             heard: self.heard,
             prep: self.prep,
+            gather: self.gather,
             service: self.service,
             calls: self.calls,
+            reads: self.reads,
         })
     }
 

@@ -11,3 +11,4 @@ mod terms;
 mod tick;
 mod vote;
 mod vote_reply;
+mod want;

@@ -60,8 +60,10 @@ impl Core {
                 hint: None,
                 heard,
                 prep: None,
+                gather: None,
                 service,
                 calls: Vec::new(alloc),
+                reads: Vec::new(alloc),
             },
         })
     }

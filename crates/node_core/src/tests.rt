@@ -4,6 +4,7 @@ ghost use Rattle.node_core.specs.Turns.{IsFor};
 
 mod asking;
 mod calls;
+mod gathering;
 mod limits;
 mod preparing;
 mod showing;

@@ -41,7 +41,7 @@ impl Core {
         self.member.shape.law();
         let before = Before::of(&self.member);
         let act = Act::new(self.member)?;
-        let act = act.respond(event)?;
+        let act = act.take_turn(event)?;
         let changes = Changes {
             role: before.role_change(&act.member),
             cuts: act.cuts,
@@ -59,13 +59,25 @@ impl Act {
     ghost use Rattle.node_core.specs.Acting.{Acts, IsCurrent, IsRangedMember};
     ghost use Rattle.node_core.specs.Turns.{IsReadIn, event_of};
 
+    /// Carries out the rule that the event calls for, and asks for what a leader then wants.
+    fn take_turn(self, event: &Event<'_>) -> Result<Act, OutOfMemory>
+        requires is_shape { IsShape self.member.store.shape }
+        requires told { EventInRange self.member.store.shape self.member.me (event_of event.now) }
+        requires read { IsReadIn self.member.store.shape event.now }
+        requires ranged { IsRangedMember self.member }
+        ensures { IfOk result (Acts (turns.act_of (event_of event.now)) self) }
+    {
+        let act = self.respond(event)?;
+        act.want()
+    }
+
     /// Carries out the rule that the event calls for.
     fn respond(self, event: &Event<'_>) -> Result<Act, OutOfMemory>
         requires is_shape { IsShape self.member.store.shape }
         requires told { EventInRange self.member.store.shape self.member.me (event_of event.now) }
         requires read { IsReadIn self.member.store.shape event.now }
         requires ranged { IsRangedMember self.member }
-        ensures { IfOk result (Acts (turns.act_of (event_of event.now)) self) }
+        ensures { IfOk result (Acts (turns.act_of_event (event_of event.now)) self) }
     {
         match event {
             Event::Tick { word } => self.tick(*word),

@@ -1,4 +1,6 @@
 pub mod Examples
+pub mod Asked
 pub mod Preparations
+pub mod Moves
 pub mod Replies
 pub mod Shapes

@@ -1,8 +1,8 @@
--- How a preparation ends.
-use Rattle.std.proofs.Common.{◌≡◌, ℕ, zero, suc, ◌+◌, ◌<◌, ◌≤◌, ◌==◌, ◌&&◌, ◌||◌, ◌⊎◌, inl, inr, nat_le, nat_lt, true, false, Bool, if◌then◌else◌, List, [], ◌∷◌, ◌++◌, length, map, drop, Option, None, Some, refl, sym, ap, subst, ◌∙◌, arith, cond, length-drop}
+-- Enough answers move the cursor of a preparation, or end it.
+use Rattle.std.proofs.Common.{◌≡◌, ℕ, zero, suc, ◌+◌, ◌<◌, ◌≤◌, ◌==◌, ◌&&◌, ◌||◌, ◌⊎◌, inl, inr, nat_le, nat_lt, true, false, Bool, if◌then◌else◌, List, [], ◌∷◌, ◌++◌, length, map, drop, Option, None, Some, refl, sym, ap, subst, ◌∙◌, arith, cond}
 use Rattle.std.specs.List.{count_by}
 use Rattle.std.specs.Option.{option_to_list}
-use Rattle.std.proofs.lemmas.Bool.{cond_both, eq-eqb, eqb-true, eqb-false, ltb-true, true≢false}
+use Rattle.std.proofs.lemmas.Bool.{cond_both, eqb-true, eqb-false, ltb-true, true≢false}
 use Rattle.std.proofs.lemmas.List.Sums.{sum_by-cons}
 use Rattle.std.proofs.lemmas.Option.{same_Some}
 use Rattle.craft_base.specs.Knowledge.{members}
@@ -18,38 +18,20 @@ use Rattle.entry_frames.specs.declared.peer.Peer.{Peer}
 use Rattle.entry_frames.specs.declared.peer.Peer.TheVariants as peers
 use Rattle.entry_frames.specs.declared.role.Role.{Role}
 use Rattle.entry_frames.specs.declared.role.Role.TheVariants.{Follower, Candidate, Preparing, Leader}
-use Rattle.leader_prep.specs.Decisions.{OpenPart, Rebuilt, first_index, open_parts, parts_from}
+use Rattle.leader_prep.specs.Decisions.{Rebuilt, first_index, parts_from}
 use Rattle.leader_prep.specs.Pages.{Page}
 use Rattle.leader_prep.specs.Verdicts.{is_covered}
 use Rattle.world_model.specs.Nodes.{Node, node_hearing}
 use Rattle.world_model.specs.Preparing.{IsAt, StaysAt, Waits, WaitsAs, after_event, has_answered, is_answer_of, shows_at}
 use Rattle.world_model.specs.Rules.Acts.{followed_by, keeping, recording, stays}
 use Rattle.world_model.specs.Rules.Answer.{act_of_answer_as, answer_heard, node_seeing}
-use Rattle.world_model.specs.Rules.Ask.{act_of_ask_as}
 use Rattle.world_model.specs.Rules.Prepare.{act_of_asking_on, act_of_deciding, act_of_later, act_of_leading, cursor_at, decision_at, leading, noop, whole_record}
 use Rattle.world_model.specs.Rules.Terms.{act_of_higher_term, act_of_lower_term, act_of_term}
-use Rattle.world_model.specs.Turn.{Event, Tick, Frame, Call, act_of_peer}
-use Rattle.world_model.proofs.Preparing.Asked.{answers_cover}
+use Rattle.world_model.specs.Turn.{Event, Tick, Frame, Call, act_of_message, act_of_peer}
 use Rattle.world_model.proofs.Preparing.Shown.{enough_move_on, parts_are_left}
 use Rattle.world_model.proofs.Preparing.Waiting.{turn_waits}
-use Rattle.world_laws.specs.Preparations.{EachAnswerCovers, EnoughAnswersMove, HasMovedOn, MovesAreParts, Prepares, AllShowAt, after_events, is_same_cursor}
-
--- ---- who is asked shows what it holds there
-
-pub each_answer_covers : EachAnswerCovers
-each_answer_covers shape member n asker term start is range from =
-    cond_both (nat_lt term n.durable.term) (act_of_lower_term n asker (peers.Ask start)) (followed_by (act_of_term term n) (λ now. act_of_peer now asker (peers.Ask start)))
-    (λ act. AllShowAt start act.sends) (λ lower. (tt, tt))
-    (λ current.
-    cond_both (nat_lt n.durable.term term) (act_of_higher_term term n) (stays n)
-    (λ act. AllShowAt start (followed_by act (λ now. act_of_peer now asker (peers.Ask start))).sends)
-    (λ higher. (answers_cover shape member n asker start is range from, tt)) (λ same. by_role n.volatile.role))
-  where
-    by_role : (role : Role) → AllShowAt start (act_of_ask_as role n asker start).sends
-    by_role Follower = (answers_cover shape member n asker start is range from, tt)
-    by_role Candidate = (answers_cover shape member n asker start is range from, tt)
-    by_role Preparing = tt
-    by_role Leader = tt
+use Rattle.world_model.proofs.Wanting.{new_want_keeps, want_keeps}
+use Rattle.world_laws.specs.Preparations.{EnoughAnswersMove, HasMovedOn, after_events}
 
 -- ---- a stretch of a preparation, and one event more
 
@@ -195,17 +177,24 @@ answer_of_term :
     (n : Node) (term sender receiver start last : ℕ) (slots : List Entry) → n.volatile.role ≡ Preparing → n.durable.term ≡ term →
     GoesOn term (after_event (Frame (messages.Peer sender receiver term (peers.Answer start last slots))) n)
 answer_of_term n term sender receiver start last slots prepares in_term =
-    cond_both (nat_lt term n.durable.term) (act_of_lower_term n sender body) (followed_by (act_of_term term n) (λ now. act_of_peer now sender body))
-    (λ act. GoesOn term act.node) (λ lower. absurd (omega (arith, ltb-true term n.durable.term lower, in_term)))
-    (λ current.
-    cond_both (nat_lt n.durable.term term) (act_of_higher_term term n) (stays n) (λ act. GoesOn term (followed_by act (λ now. act_of_peer now sender body)).node)
-    (λ higher. absurd (omega (arith, ltb-true n.durable.term term higher, in_term)))
-    (λ same.
-    subst (λ t. GoesOn t (act_of_peer n sender body).node) in_term
-    (answer_goes_on n n.volatile.role (record { sender = sender; start = start; last = last; slots = slots }) prepares prepares)))
+    want_keeps told (λ act. GoesOn term act.node) goes_on (λ leads. new_want_keeps told (GoesOn term) goes_on)
   where
     body : Peer
     body = peers.Answer start last slots
+
+    told : Node
+    told = (act_of_message (messages.Peer sender receiver term body) n).node
+
+    goes_on : GoesOn term told
+    goes_on =
+        cond_both (nat_lt term n.durable.term) (act_of_lower_term n sender body) (followed_by (act_of_term term n) (λ now. act_of_peer now sender body))
+        (λ act. GoesOn term act.node) (λ lower. absurd (omega (arith, ltb-true term n.durable.term lower, in_term)))
+        (λ current.
+        cond_both (nat_lt n.durable.term term) (act_of_higher_term term n) (stays n) (λ act. GoesOn term (followed_by act (λ now. act_of_peer now sender body)).node)
+        (λ higher. absurd (omega (arith, ltb-true n.durable.term term higher, in_term)))
+        (λ same.
+        subst (λ t. GoesOn t (act_of_peer n sender body).node) in_term
+        (answer_goes_on n n.volatile.role (record { sender = sender; start = start; last = last; slots = slots }) prepares prepares)))
 
 pub enough_answers_move : EnoughAnswersMove
 enough_answers_move term cursor n events (Tick word) waits stays' covered = absurd (not_covered term cursor n events (Tick word) waits stays' (λ member. refl) covered)
@@ -243,39 +232,3 @@ enough_answers_move term cursor n events (Frame m) waits stays' covered = of_mes
   of_message (messages.Peer sender receiver at (peers.Ask start)) is = absurd (none_by _ (λ member. refl) is)
   of_message (messages.Request receiver request) is = absurd (none_by _ (λ member. refl) is)
   of_message (messages.Answered sender client seq reply) is = absurd (none_by _ (λ member. refl) is)
-
--- ---- how often it can move
-
-same_cursor : (at : Option ℕ) → is_same_cursor at at ≡ true
-same_cursor None = refl
-same_cursor (Some cursor) = eq-eqb cursor cursor refl
-
-at_most_one : (b : Bool) → (if b then 0 else 1) ≤ 1
-at_most_one true = omega arith
-at_most_one false = omega arith
-
--- the cursor is another only where there are fewer parts
-parts_pay :
-    (parts : List OpenPart) (many : ℕ) →
-    (if is_same_cursor (first_index parts) (first_index (drop many parts)) then 0 else 1) + length (drop many parts) ≤ length parts
-parts_pay [] zero = omega arith
-parts_pay [] (suc many) = omega arith
-parts_pay (part ∷ parts) zero =
-    let same : ◌≡◌ {A = ℕ} (if is_same_cursor (Some part.index) (Some part.index) then 0 else 1) 0 = ap (λ (b : Bool). if b then 0 else 1) (same_cursor (Some part.index)) in
-    omega (arith, same)
-parts_pay (part ∷ parts) (suc many) =
-    omega (arith, at_most_one (is_same_cursor (Some part.index) (first_index (drop many parts))), length-drop many parts)
-
-begins : (n : Node) (events : List Event) → Prepares n events → n.volatile.role ≡ Preparing
-begins n [] prepares = prepares
-begins n (event ∷ events) prepares = prepares.0
-
-pub moves_are_parts : MovesAreParts
-moves_are_parts n [] prepares = omega arith
-moves_are_parts n (event ∷ events) prepares =
-    let now : Node = after_event event n in
-    let left = parts_are_left n event prepares.0 (begins now events prepares.1) in
-    let before : List OpenPart = open_parts n.durable.commit n.durable.log in
-    let pays : (if is_same_cursor (first_index before) (first_index (open_parts now.durable.commit now.durable.log)) then 0 else 1) + length (open_parts now.durable.commit now.durable.log) ≤ length before =
-    subst (λ parts. (if is_same_cursor (first_index before) (first_index parts) then 0 else 1) + length parts ≤ length before) (sym left.1) (parts_pay before left.0) in
-    omega (arith, pays, moves_are_parts now events prepares.1)

@@ -3,9 +3,9 @@ use Rattle.std.proofs.Common.{◌≡◌, ℕ, List, Some, subst}
 use Rattle.craft_base.specs.declared.command.Reply.{Reply}
 use Rattle.craft_base.specs.declared.command.Reply.TheVariants as replies
 use Rattle.kv_apply.specs.Commands.{map_reply}
+use Rattle.world_model.specs.Order.{TellsOutcome}
 use Rattle.world_model.specs.Safety.{HasGreater, IsOfOneMap, heads_in, value_in}
 use Rattle.world_model.specs.Traces.{Command}
-use Rattle.world_laws.specs.Laws.{TellsOutcome}
 
 module _ (commands : List Command) (client seq : ℕ) where
   pub outcome_told : (reply : Reply) → TellsOutcome reply → IsOfOneMap commands client seq reply → map_reply (value_in commands) client seq (heads_in commands) ≡ Some reply

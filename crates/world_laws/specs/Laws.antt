@@ -1,12 +1,13 @@
--- What holds of every run, in parts: of each shape and each list of events in range. The words are those of `world_model`'s Safety.
+-- What holds of every run, in parts: of each shape and each list of events in range. The words are those of `world_model`'s
+-- Safety and Order.
 use Rattle.std.specs.Prelude.{◌≡◌, ℕ, ◌<◌, ◌≤◌, Bool, true, List, map, take, Some, slice_get}
 use Rattle.std.specs.List.{count_by}
 use Rattle.craft_base.specs.Knowledge.{members}
 use Rattle.craft_base.specs.Shape.{Shape, majority_of}
 use Rattle.craft_base.specs.declared.command.Entry.{Entry}
-use Rattle.craft_base.specs.declared.command.Reply.{Reply}
-use Rattle.craft_base.specs.declared.command.Reply.TheVariants.{Done, Differs, Gone, Value, Nothing, Old}
+use Rattle.craft_base.specs.declared.command.Reply.TheVariants.{Old}
 use Rattle.kv_apply.specs.Commands.{is_of, map_reply}
+use Rattle.world_model.specs.Order.{AreToldInOrder, IsEffectiveAt, IsRequestAt, IsToldAt, IsToldBefore, TellsOutcome}
 use Rattle.world_model.specs.Safety.{EverLed, IsFront, IsIn, IsRun, Rebuilds, StandsFor, StandsIn, committed, heads_in, value_in}
 use Rattle.world_model.specs.Traces.{Command, LeaderCommit, Removal, Replied}
 use Rattle.world_model.specs.World.{Member, run}
@@ -56,16 +57,7 @@ AllListed =
     (shape : Shape) (events : List Line) → IsRun shape events →
     (commands : List Command) × (committed (run shape events) ≡ map Some commands)
 
--- the replies that tell what a request came to
-abbrev pub TellsOutcome : Reply → Type 0
-TellsOutcome (Done version) = Unit {0}
-TellsOutcome (Differs version) = Unit {0}
-TellsOutcome (Gone was_there) = Unit {0}
-TellsOutcome (Value version value) = Unit {0}
-TellsOutcome Nothing = Unit {0}
-TellsOutcome _ = ⊥
-
--- such a reply is the one of one map that took all that is committed, and each number of a client once
+-- a reply that tells what a request came to is the one of one map that took all that is committed, and each number of a client once
 abbrev pub OneMap : Type 0
 OneMap =
     (shape : Shape) (events : List Line) → IsRun shape events → (commands : List Command) → committed (run shape events) ≡ map Some commands →
@@ -78,3 +70,26 @@ OldNumbers =
     (shape : Shape) (events : List Line) → IsRun shape events → (commands : List Command) → committed (run shape events) ≡ map Some commands →
     (r : Replied) → IsIn r (run shape events).replies → r.reply ≡ Old →
     (command : Command) × IsIn command commands × (is_of r.client command.head ≡ true) × (r.seq < command.head.seq)
+
+-- ---- the order of time
+
+-- a reply that tells what a request came to tells what the effective command of its client with its number came to, at its place in the
+-- list that is committed, behind those before it
+abbrev pub EachAtItsPlace : Type 0
+EachAtItsPlace =
+    (shape : Shape) (events : List Line) → IsRun shape events → (commands : List Command) → committed (run shape events) ≡ map Some commands →
+    (r : Replied) → IsIn r (run shape events).replies → TellsOutcome r.reply → (place : ℕ) × IsToldAt commands r.client r.seq place r.reply
+
+-- where such a reply was told before a request was first taken, that command stands below each of the request
+abbrev pub LaterStandAbove : Type 0
+LaterStandAbove =
+    (shape : Shape) (events : List Line) → IsRun shape events → (commands : List Command) → committed (run shape events) ≡ map Some commands →
+    (r : Replied) (client seq : ℕ) → IsToldBefore (run shape events) r client seq → (place later : ℕ) →
+    IsEffectiveAt commands r.client r.seq place → IsRequestAt commands client seq later → place < later
+
+-- so the reply to that request counts what the command did
+abbrev pub LaterCount : Type 0
+LaterCount =
+    (shape : Shape) (events : List Line) → IsRun shape events → (commands : List Command) → committed (run shape events) ≡ map Some commands →
+    (one other : Replied) → IsToldBefore (run shape events) one other.client other.seq → IsIn other (run shape events).replies →
+    TellsOutcome other.reply → AreToldInOrder commands one other

@@ -1,13 +1,13 @@
 //! What the whole cluster promises, whatever its events: one list of commands is committed, for all members and for ever; any F+1
 //! members rebuild it; no entry is removed that a leader of the remover's term or of a lower one commits; no term has two leaders; and
-//! clients are answered as by one map that took this list. Nothing here runs: `law_safe`, `law_rebuild`, `law_replies` and
-//! `law_prepared` state it as their contracts, for every shape and every list of events in range. `specs/Laws.antt` and
-//! `specs/Preparations.antt` have the parts, `specs/Examples.antt` runs of which they speak; `docs/proofs/BRIDGE.md` tells
-//! the argument.
+//! clients are answered as by one map that took this list, in the order of time. Nothing here runs: `law_safe`, `law_rebuild`,
+//! `law_replies`, `law_order` and `law_prepared` state it as their contracts, for every shape and every list of events in range.
+//! `specs/Laws.antt` and `specs/Preparations.antt` have the parts, `specs/Examples.antt` runs of which they speak;
+//! `docs/proofs/BRIDGE.md` tells the argument.
 #![tactic(auto)]
 
 ghost use Rattle.world_model.specs.Preparing.{EveryPreparingWaits};
-ghost use Rattle.world_laws.specs.Laws.{AllListed, AnyRebuild, OldNumbers, OneLeaderATerm, OneList, OneMap, RemovesUncommitted, StaysCommitted};
+ghost use Rattle.world_laws.specs.Laws.{AllListed, AnyRebuild, EachAtItsPlace, LaterCount, LaterStandAbove, OldNumbers, OneLeaderATerm, OneList, OneMap, RemovesUncommitted, StaysCommitted};
 ghost use Rattle.world_laws.specs.Preparations.{EachAnswerCovers, EnoughAnswersMove, MovesAreParts};
 
 /// Every run is safe, whichever members go down, stop in a turn and start anew, and whatever the network loses, repeats or reorders.
@@ -38,6 +38,17 @@ pub fn law_replies()
     ensures one_map { OneMap }
     // where a number is old, a command of the client with a greater one is among them
     ensures old { OldNumbers }
+{}
+
+/// The order of time is kept: what is first asked after a reply was told counts what that reply tells of, whichever members go down,
+/// stop in a turn and start anew, and whatever the network loses, repeats or reorders.
+pub fn law_order()
+    // what a request came to is what the effective command of its client with its number came to, at its place in the list
+    ensures each { EachAtItsPlace }
+    // where every entry of a request was proposed in a later event than the reply, each that is committed stands above that command
+    ensures above { LaterStandAbove }
+    // so a reply to that request, as that to a get, is the map's at a place above: what it counts has that command among it
+    ensures counts { LaterCount }
 {}
 
 /// A preparation ends once enough members answer: whoever prepares to lead has an index to decide next, its cursor, which too few members

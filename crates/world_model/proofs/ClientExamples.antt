@@ -44,7 +44,7 @@ both = called 2 1 ∷ called 3 2 ∷ []
 abbrev member : Role → Option ℕ → List Entry → (commit : ℕ) → List Called → Node
 member role hint entries commit calls =
     node_with three 0 (record { term = 1; vote = Some 0; log = entries; commit = commit })
-    (record { role = role; quiet = 0; hint = hint; heard = From 1 3 (Matched 0 3 7) ∷ []; first = 1; pages = []; calls = calls })
+    (record { role = role; quiet = 0; hint = hint; heard = From 1 3 (Matched 0 3 7) ∷ []; first = 1; pages = []; calls = calls; reads = []; want = None })
 
 abbrev leader : List Entry → ℕ → List Called → Node
 leader = member Leader (Some 0)

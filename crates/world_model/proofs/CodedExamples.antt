@@ -30,7 +30,7 @@ member role log heard =
       shape = three;
       me = 0;
       durable = record { term = 4; vote = Some 0; log = log; commit = 1 };
-      volatile = record { role = role; quiet = 0; hint = None; heard = heard; first = 2; pages = []; calls = [] };
+      volatile = record { role = role; quiet = 0; hint = None; heard = heard; first = 2; pages = []; calls = []; reads = []; want = None };
     }
 
 -- an entry whose value is the two bytes 1 and 2

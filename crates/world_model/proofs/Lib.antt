@@ -4,11 +4,13 @@ mod CommitExamples
 mod ReplicationExamples
 mod CodedExamples
 mod ClientExamples
+mod WantExamples
 pub mod Frames
 pub mod Positions
 pub mod Turns
 pub mod Stops
 pub mod Recorded
+pub mod Wanting
 pub mod Applying
 pub mod Ranges
 pub mod Members

@@ -82,7 +82,7 @@ answer_dropped = refl
 
 -- the same member, which has been quiet for long, in another role
 abbrev ahead_as : Role → Durable → Node
-ahead_as role durable = record ahead { durable = durable; volatile = record { role = role; quiet = 100; hint = None; heard = []; first = 0; pages = []; calls = [] } }
+ahead_as role durable = record ahead { durable = durable; volatile = record { role = role; quiet = 100; hint = None; heard = []; first = 0; pages = []; calls = []; reads = []; want = None } }
 
 -- who stands records its term and its own vote; a vote for another is recorded once
 stands_recorded : (act_of (Tick 0) (ahead_as Follower ahead.durable)).records ≡ records.Term 6 (Some 0) ∷ []

@@ -11,6 +11,7 @@ pub mod Applying
 pub mod Batches
 pub mod Orders
 pub mod Say
+pub mod Want
 pub mod Terms
 pub mod Tick
 pub mod Vote

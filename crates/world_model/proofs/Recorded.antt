@@ -16,7 +16,8 @@ use Rattle.world_model.specs.Nodes.{Node, node_hearing}
 use Rattle.world_model.specs.Rules.Acts.{Act, stays, recording, followed_by, IsRecorded}
 use Rattle.world_model.specs.Rules.Append.{act_of_append_as, act_of_entries, act_of_heard_append, act_of_match, act_of_refusal, act_of_suited, act_of_taking, difference, following, has_before, is_clash}
 use Rattle.leader_prep.specs.Pages.{Page}
-use Rattle.world_model.specs.Rules.Answer.{act_of_answer_as, answer_heard, node_seeing}
+use Rattle.leader_prep.specs.Verdicts.{Source}
+use Rattle.world_model.specs.Rules.Answer.{act_of_answer_as, act_of_shown, act_of_source, answer_heard, node_seeing, node_shown, source_at}
 use Rattle.world_model.specs.Rules.Ask.{act_of_ask_as}
 use Rattle.world_model.specs.Rules.Applying.{act_of_applying, act_of_commit}
 use Rattle.kv_apply.specs.Commands.{kept_of}
@@ -26,12 +27,15 @@ use Rattle.craft_base.specs.declared.command.Reply.TheVariants as replies
 use Rattle.craft_base.specs.declared.command.Request.{Request}
 use Rattle.world_model.specs.Rules.Call.{act_of_asking, act_of_call_as, act_of_new_request, act_of_reply, act_of_request, applied_heads, is_busy, is_full}
 use Rattle.world_model.specs.Rules.Matched.{act_of_matched_as, act_of_next, act_of_progress, act_of_refused_as, commit_of_leader, log_heard}
-use Rattle.world_model.specs.Rules.Prepare.{act_of_asking_on, act_of_deciding, act_of_first, act_of_later, act_of_leading, act_of_noop, act_of_preparing, act_of_winning, cursor_at, noop, preparing}
+use Rattle.world_model.specs.Rules.Prepare.{act_of_asking_again, act_of_asking_on, act_of_deciding, act_of_first, act_of_later, act_of_leading, act_of_noop, act_of_preparing, act_of_winning, cursor_at, noop, preparing}
 use Rattle.world_model.specs.Rules.Terms.{act_of_higher_term, act_of_term, act_of_lower_term}
-use Rattle.world_model.specs.Rules.Tick.{act_of_asking_again, act_of_election, act_of_tick_as, act_of_waiting, is_due, waiting_node}
+use Rattle.world_model.specs.Rules.Say.{act_of_saying}
+use Rattle.world_model.specs.Rules.Tick.{act_of_election, act_of_tick_as, act_of_waiting, is_due, waiting_node}
+use Rattle.world_model.specs.Rules.Want.{act_of_gathering, act_of_want, want_of, wanting}
 use Rattle.world_model.specs.Rules.Vote.{act_of_grant, act_of_vote_from, act_of_vote_refusal, act_of_vote_request, is_grantor}
 use Rattle.world_model.specs.Rules.VoteReply.{act_of_count, act_of_vote_reply_as, has_won, vote_heard}
-use Rattle.world_model.specs.Turn.{EveryTurnIsRecorded, Tick, Frame, Call, act_of_message, act_of_peer}
+use Rattle.world_model.specs.Turn.{EveryTurnIsRecorded, Event, Tick, Frame, Call, act_of_event, act_of_message, act_of_peer}
+use Rattle.world_model.proofs.Wanting.{gathering_keeps, want_keeps}
 
 pub after-append : (d : Durable) (records more : List Record) → after d (records ++ more) ≡ after (after d records) more
 after-append d [] more = refl
@@ -55,11 +59,20 @@ asking_again_recorded : (cursor : Option ℕ) (n : Node) → IsRecorded n (act_o
 asking_again_recorded None n = refl
 asking_again_recorded (Some cursor) n = refl
 
+gathering_recorded : (n : Node) → IsRecorded n (act_of_gathering n)
+gathering_recorded n =
+    gathering_keeps n (IsRecorded n) (asking_again_recorded (want_of n) n) (asking_again_recorded (want_of n) (wanting (want_of n) n))
+
+want_recorded : (n : Node) → IsRecorded n (act_of_want n)
+want_recorded n = want_keeps n (IsRecorded n) refl (λ leads. asking_again_recorded (want_of n) (wanting (want_of n) n))
+
 tick_as_recorded : (n : Node) (word : ℕ) (role : Role) → IsRecorded n (act_of_tick_as role word n)
 tick_as_recorded n word Follower = waiting_recorded (waiting_node n) word
 tick_as_recorded n word Candidate = waiting_recorded (waiting_node n) word
 tick_as_recorded n word Preparing = asking_again_recorded (cursor_at n) (node_hearing Beat n)
-tick_as_recorded n word Leader = refl
+tick_as_recorded n word Leader =
+    let now = node_hearing Beat n in
+    followed_recorded now (act_of_saying now) act_of_gathering refl (gathering_recorded now)
 
 vote_from_recorded : (n : Node) (candidate : ℕ) (vote : Option ℕ) → IsRecorded n (act_of_vote_from vote candidate n)
 vote_from_recorded n candidate None = refl
@@ -151,11 +164,19 @@ preparing_recorded n =
     followed_recorded n (act_of_deciding n) (λ decided. act_of_later (cursor_at n) (cursor_at decided) decided) refl
     (next_recorded (cursor_at n) (cursor_at (act_of_deciding n).node) (act_of_deciding n).node)
 
+source_recorded : (index : ℕ) (source : Option Source) (n : Node) → IsRecorded n (act_of_source index source n)
+source_recorded index None n = refl
+source_recorded index (Some source) n = refl
+
+shown_recorded : (want : Option ℕ) (n : Node) → IsRecorded n (act_of_shown want n)
+shown_recorded None n = refl
+shown_recorded (Some index) n = source_recorded index (source_at n index) n
+
 answer_as_recorded : (role : Role) (n : Node) (page : Page) → IsRecorded n (act_of_answer_as role n page)
 answer_as_recorded Follower n page = refl
 answer_as_recorded Candidate n page = refl
 answer_as_recorded Preparing n page = preparing_recorded (node_seeing page (node_hearing (answer_heard n page.sender) n))
-answer_as_recorded Leader n page = refl
+answer_as_recorded Leader n page = shown_recorded n.volatile.want (node_shown page (node_hearing (answer_heard n page.sender) n))
 
 count_recorded : (n : Node) → IsRecorded n (act_of_count n)
 count_recorded n = cond_both (has_won n) (act_of_winning n) (stays n) (IsRecorded n) (λ won. winning_recorded n) (λ waits. refl)
@@ -201,7 +222,11 @@ call_as_recorded Candidate place r n = refl
 call_as_recorded Preparing place r n = refl
 call_as_recorded Leader place r n = request_recorded place r (kept_of r.client r.seq (applied_heads n)) n
 
+pub event_recorded : (event : Event) (n : Node) → IsRecorded n (act_of_event event n)
+event_recorded (Tick word) n = tick_as_recorded n word n.volatile.role
+event_recorded (Frame m) n = message_recorded m n
+event_recorded (Call place request) n = call_as_recorded n.volatile.role place request n
+
 pub every_turn_is_recorded : EveryTurnIsRecorded
-every_turn_is_recorded (Tick word) n = tick_as_recorded n word n.volatile.role
-every_turn_is_recorded (Frame m) n = message_recorded m n
-every_turn_is_recorded (Call place request) n = call_as_recorded n.volatile.role place request n
+every_turn_is_recorded event n =
+    followed_recorded n (act_of_event event n) act_of_want (event_recorded event n) (want_recorded (act_of_event event n).node)

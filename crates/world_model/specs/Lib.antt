@@ -11,5 +11,6 @@ pub mod Calls
 pub mod Schedule
 pub mod Spelling
 pub mod Safety
+pub mod Order
 pub mod Ranges
 pub mod Preparing

@@ -19,10 +19,15 @@ pub record Volatile : Type 0 where
   pub heard : List Heard
   -- the index from which on a leader sends to a member of whose log it knows nothing
   pub first : ℕ
-  -- what others have shown of their logs while it prepares to lead, the latest first
+  -- what others have shown of their logs while it prepares to lead, or while as a leader it wants a value, the latest first
   pub pages : List Page
-  -- the requests that it added to its log as a leader and hasn't answered yet
+  -- the requests that it added to its log as a leader and that aren't applied yet
   pub calls : List Called
+  -- the requests that were applied and found a version of whose value it holds a part alone, each with that version as its index,
+  -- in order of clients; a client has at most one
+  pub reads : List Called
+  -- the index whose value it wants as a leader, if there is one
+  pub want : Option ℕ
 
 -- a member: what outlives a crash is its durable part, and nothing else does
 pub record Node : Type 0 where
@@ -33,7 +38,7 @@ pub record Node : Type 0 where
 
 -- what a crash has just lost: nothing was heard, and nobody is known to lead
 abbrev pub fresh : Volatile
-fresh = record { role = Follower; quiet = 0; hint = None; heard = []; first = 0; pages = []; calls = [] }
+fresh = record { role = Follower; quiet = 0; hint = None; heard = []; first = 0; pages = []; calls = []; reads = []; want = None }
 
 abbrev pub node_with : Shape → ℕ → Durable → Volatile → Node
 node_with shape me durable volatile = record { shape = shape; me = me; durable = durable; volatile = volatile }

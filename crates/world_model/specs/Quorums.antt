@@ -1,5 +1,5 @@
 -- How far a leader may commit, by what it knows of who holds its entries.
-use Rattle.std.specs.Prelude.{ℕ, ◌+◌, ◌-◌, max, List, filter, length, Bool, true, false, ◌&&◌, ◌||◌, ◌==◌, if◌then◌else◌, nat_le, Option, None, Some}
+use Rattle.std.specs.Prelude.{ℕ, ◌+◌, ◌-◌, max, List, filter, Bool, true, false, ◌&&◌, ◌||◌, ◌==◌, if◌then◌else◌, nat_le, Option, None, Some}
 use Rattle.std.specs.List.{count_by, fold, list_all, range_with_len}
 use Rattle.coded_append.specs.Starts.{open_indexes}
 use Rattle.craft_base.specs.Knowledge.{Heard, held_form, members}

@@ -14,7 +14,7 @@ use Rattle.entry_frames.specs.declared.role.Role.TheVariants.{Leader}
 use Rattle.entry_frames.specs.declared.message.Message.{Message}
 use Rattle.entry_frames.specs.declared.message.Message.TheVariants as messages
 use Rattle.leader_prep.specs.Pages.{Page}
-use Rattle.world_model.specs.Nodes.{Node}
+use Rattle.world_model.specs.Nodes.{Node, Volatile}
 use Rattle.world_model.specs.Safety.{IsRun}
 use Rattle.world_model.specs.Turn.{Event, Tick, Frame, Call, act_of}
 use Rattle.world_model.specs.World.{Member, World, node_of, run}
@@ -67,9 +67,13 @@ HintInRange shape (Some member) = IsMember shape member
 abbrev pub CallInRange : Called → Type 0
 CallInRange c = IsClientNumber c.client × IsClientNumber c.seq
 
+-- so has each request that waits to be applied, and each that waits for a value
+abbrev pub CallsInRange : Volatile → Type 0
+CallsInRange v = All CallInRange v.calls × All CallInRange v.reads
+
 -- what a member may tell clients: who it takes for the leader is a member, and each request that waits has a client and a number
-abbrev pub ClientsInRange : Shape → Option ℕ → List Called → Type 0
-ClientsInRange shape hint calls = HintInRange shape hint × All CallInRange calls
+abbrev pub ClientsInRange : Shape → Volatile → Type 0
+ClientsInRange shape v = HintInRange shape v.hint × CallsInRange v
 
 -- what a member showed of its log can be written, entry by entry
 abbrev pub PageInRange : (k : ℕ) → Page → Type 0
@@ -81,7 +85,7 @@ pub record NodeInRange (shape : Shape) (member : ℕ) (n : Node) : Type 0 where
   pub me : n.me ≡ member
   pub is_member : IsMember shape member
   pub durable : DurableInRange shape n.durable
-  pub clients : ClientsInRange shape n.volatile.hint n.volatile.calls
+  pub clients : ClientsInRange shape n.volatile
   pub knows : KnowsInRange n.volatile.role (length n.durable.log) n.volatile.first n.volatile.heard
   pub pages : All (PageInRange shape.need) n.volatile.pages
 

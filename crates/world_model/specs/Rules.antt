@@ -6,6 +6,7 @@ pub mod Tick
 pub mod Vote
 pub mod Prepare
 pub mod VoteReply
+pub mod Want
 pub mod Applying
 pub mod Call
 pub mod Append

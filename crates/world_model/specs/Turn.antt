@@ -21,6 +21,7 @@ use Rattle.world_model.specs.Rules.Terms.{act_of_term, act_of_lower_term}
 use Rattle.world_model.specs.Rules.Tick.{act_of_tick}
 use Rattle.world_model.specs.Rules.Vote.{act_of_vote_request}
 use Rattle.world_model.specs.Rules.VoteReply.{act_of_vote_reply}
+use Rattle.world_model.specs.Rules.Want.{act_of_want}
 use Rattle.world_model.specs.declared.call.ClientReply.{ClientReply}
 
 -- what a node is told
@@ -50,10 +51,14 @@ act_of_message (messages.Peer sender receiver term body) n =
     if nat_lt term n.durable.term then act_of_lower_term n sender body else followed_by (act_of_term term n) (λ now. act_of_peer now sender body)
 act_of_message _ n = stays n
 
+abbrev pub act_of_event : Event → Node → Act
+act_of_event (Tick word) n = act_of_tick word n
+act_of_event (Frame m) n = act_of_message m n
+act_of_event (Call place request) n = act_of_call place request n
+
+-- and then what a leader wants behind it
 abbrev pub act_of : Event → Node → Act
-act_of (Tick word) n = act_of_tick word n
-act_of (Frame m) n = act_of_message m n
-act_of (Call place request) n = act_of_call place request n
+act_of event n = followed_by (act_of_event event n) act_of_want
 
 -- what outlives a crash is what the records of a turn leave, whatever a node is told
 abbrev pub EveryTurnIsRecorded : Type 0

@@ -2,10 +2,10 @@
 
 use craft_base::Reply;
 
-/// A request that a leader has added to its log and hasn't answered yet.
+/// A request that a leader hasn't answered yet: it was added to its log, or it was applied and waits for the value that it found.
 #[derive(Clone, Copy, Debug, PartialEq, Eq)]
 pub struct Called {
-    /// The index of its entry.
+    /// The index of its entry; of one that waits for a value, the version of that value.
     pub index: u64,
     /// From where it came.
     pub place: u64,

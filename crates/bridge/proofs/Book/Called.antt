@@ -1,7 +1,6 @@
 -- A request that a leader adds to its log is proposed by it, and stands in the book; no other answer proposes anything.
-use Rattle.std.proofs.Common.{◌≡◌, ℕ, ◌+◌, ◌<◌, None, List, length, map, refl, ap, arith}
+use Rattle.std.proofs.Common.{◌≡◌, ℕ, ◌+◌, ◌<◌, None, List, length, refl, ap, arith}
 use Rattle.std.specs.List.{All}
-use Rattle.std.specs.Option.{option_to_list}
 use Rattle.std.proofs.lemmas.Bool.{cond_both}
 use Rattle.std.proofs.lemmas.List.Elements.{All-nil, All-weaker}
 use Rattle.craft_base.specs.Shape.{IsShape, Shape}
@@ -14,9 +13,7 @@ use Rattle.kv_apply.specs.Commands.{kept_of}
 use Rattle.kv_apply.specs.declared.outcome.Kept.{Kept}
 use Rattle.kv_apply.specs.declared.outcome.Kept.TheVariants as keeps
 use Rattle.world_model.specs.Nodes.{Node}
-use Rattle.world_model.specs.Rules.Acts.{answering, stays}
-use Rattle.world_model.specs.Rules.Applying.{reply_of}
-use Rattle.world_model.specs.Rules.Call.{act_of_adding, act_of_asking, act_of_call, act_of_call_as, act_of_entry, act_of_reply, act_of_request, applied_heads, calling, entry_for, is_busy, is_full, reply_for, up_to_date}
+use Rattle.world_model.specs.Rules.Call.{act_of_adding, act_of_asking, act_of_call, act_of_call_as, act_of_entry, act_of_kept, act_of_reply, act_of_request, applied_heads, calling, entry_for, is_busy, is_full, up_to_date}
 use Rattle.world_model.specs.Safety.{command_in}
 use Rattle.world_model.specs.Traces.{Proposal}
 use Rattle.protocol.specs.History as protocol
@@ -73,8 +70,7 @@ module _
         cond_both (is_busy n.durable.commit n.durable.log) (act_of_reply place r replies.Busy n) (act_of_asking place r n)
         (IsTraced shape g member n.durable book) (λ busy. reply_traced replies.Busy) (λ free. asking_traced))
     request_traced (keeps.Same outcome) =
-        silent_traced n.durable stand (answering (map (reply_for place r) (option_to_list (reply_of n.durable.log outcome))) (stays n)) seen refl refl
-        (λ more log. All-nil (MessageStands shape more))
+        silent_traced n.durable stand (act_of_kept place r outcome n) seen refl refl (λ more log. All-nil (MessageStands shape more))
     request_traced keeps.Old = reply_traced replies.Old
 
   call_as_traced : (role : Role) → n.volatile.role ≡ role → IsTraced shape g member n.durable book (act_of_call_as role place r n)

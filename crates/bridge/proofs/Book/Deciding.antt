@@ -33,9 +33,8 @@ use Rattle.bridge.specs.Views.{log_seen}
 use Rattle.bridge.proofs.Book.Completing.{complete_stands, removals_in-append}
 use Rattle.bridge.proofs.Book.Cutting.{gone}
 use Rattle.bridge.proofs.Book.Standing.{stand_take}
-use Rattle.bridge.proofs.Pages.{latest_stands}
 use Rattle.bridge.proofs.Book.Taken.{stretch_has}
-use Rattle.bridge.proofs.Book.Values.{IsValueRight, SlotStands, verdict_right}
+use Rattle.bridge.proofs.Book.Values.{IsValueRight, latest_slots_stand, verdict_right}
 use Rattle.bridge.proofs.Completed.{complete_term_at}
 use Rattle.bridge.proofs.Views.{length_seen}
 
@@ -188,11 +187,7 @@ module _ (shape : Shape) (is : IsShape shape) (g : protocol.History) (book : Lis
     right_in s m same_shape same_me i at e stands =
         rw same_shape (rw same_me
         (verdict_right shape is book member at e stands (found_of_bytes g book proposed e.term at stands.0 stands.1)
-        (λ other. latest_slot other n.volatile.pages at) (λ other. slot_in_book other (latest_slot other n.volatile.pages at) refl) (λ other. is_shown other n.volatile.pages at)))
-      where
-        slot_in_book : (other : ℕ) (o : Option Entry) → latest_slot other n.volatile.pages at ≡ o → SlotStands shape book at other o
-        slot_in_book other None there = tt
-        slot_in_book other (Some slot) there = latest_stands shape book at other n.volatile.pages seen slot there
+        (λ other. latest_slot other n.volatile.pages at) (latest_slots_stand shape book at n.volatile.pages seen) (λ other. is_shown other n.volatile.pages at)))
 
     -- its log still stands
     pub decided_log : AllStand (holder shape member) book 1 (decided_of n).durable.log

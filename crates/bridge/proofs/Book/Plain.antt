@@ -1,4 +1,5 @@
--- Acts that leave the log as it is and record nothing but a term, or nothing: they propose, remove and commit nothing.
+-- Acts that propose, remove and commit nothing: they leave the log as it is and record nothing but a term, or nothing; or what they make of
+-- the log stands all the same.
 use Rattle.std.proofs.Common.{◌≡◌, ℕ, Bool, List, [], ◌∷◌, ◌++◌, if◌then◌else◌, refl, subst, sym}
 use Rattle.std.specs.List.{All}
 use Rattle.std.proofs.lemmas.Bool.{cond_both}
@@ -51,23 +52,31 @@ none_of_follower P role xs e =
 abbrev pub SendsStand : Shape → (member : ℕ) → Act → Type 0
 SendsStand shape member act = (book : List Proposal) → AllStand (holder shape member) book 1 act.node.durable.log → All (MessageStands shape book) act.sends
 
+-- the log that is left stands
+pub kept_traced :
+    {shape : Shape} {g : History} {member : ℕ} {book : List Proposal} (before : Durable) (act : Act) → AllStand (holder shape member) book 1 act.node.durable.log →
+    All (PageStands shape book) act.node.volatile.pages → ((event : ℕ) → all_proposals_in event before act.records ≡ []) →
+    ((event : ℕ) → removals_in event member before act.records ≡ []) → ((event : ℕ) → all_commits_in event before act.records ≡ []) →
+    SendsStand shape member act → IsTraced shape g member before book act
+kept_traced {shape = shape} {member = member} {book = book} before act stand seen no_proposals no_removals no_commits sends h run node event =
+    let more = proposals_in event act.node.volatile.role before act.records in
+    let log : AllStand (holder shape member) (book ++ more) 1 act.node.durable.log = stand_more (holder shape member) book more 1 act.node.durable.log stand in
+    record {
+      proposals = none_won (ProposalAgrees h) (has_won_term act.node.volatile.role) (all_proposals_in event before act.records) (no_proposals event);
+      removals = All-same (RemovalAgrees h) _ [] (no_removals event) (All-nil (RemovalAgrees h));
+      commits = none_won (CommitAgrees h) (has_won_term act.node.volatile.role) (all_commits_in event before act.records) (no_commits event);
+      log = log;
+      pages = pages_more shape book more act.node.volatile.pages seen;
+      sends = sends (book ++ more) log;
+    }
+
 module _ {shape : Shape} {g : History} {member : ℕ} {book : List Proposal} (before : Durable) (stand : AllStand (holder shape member) book 1 before.log) where
   pub plain_traced :
       (act : Act) → All (PageStands shape book) act.node.volatile.pages → act.node.durable.log ≡ before.log → ((event : ℕ) → all_proposals_in event before act.records ≡ []) →
       ((event : ℕ) → removals_in event member before act.records ≡ []) → ((event : ℕ) → all_commits_in event before act.records ≡ []) →
       SendsStand shape member act → IsTraced shape g member before book act
-  plain_traced act seen same no_proposals no_removals no_commits sends h run node event =
-      let more = proposals_in event act.node.volatile.role before act.records in
-      let log : AllStand (holder shape member) (book ++ more) 1 act.node.durable.log =
-      subst (AllStand (holder shape member) (book ++ more) 1) (sym same) (stand_more (holder shape member) book more 1 before.log stand) in
-      record {
-        proposals = none_won (ProposalAgrees h) (has_won_term act.node.volatile.role) (all_proposals_in event before act.records) (no_proposals event);
-        removals = All-same (RemovalAgrees h) _ [] (no_removals event) (All-nil (RemovalAgrees h));
-        commits = none_won (CommitAgrees h) (has_won_term act.node.volatile.role) (all_commits_in event before act.records) (no_commits event);
-        log = log;
-        pages = pages_more shape book more act.node.volatile.pages seen;
-        sends = sends (book ++ more) log;
-      }
+  plain_traced act seen same no_proposals no_removals no_commits sends =
+      kept_traced before act (subst (AllStand (holder shape member) book 1) (sym same) stand) seen no_proposals no_removals no_commits sends
 
   -- an act that records nothing
   pub silent_traced :

@@ -1,12 +1,11 @@
--- A turn is bridged, and what it proposes, removes and commits agrees with where its moves lead.
+-- A message is taken by moves, and what is proposed, removed and committed by it agrees with where these lead.
 use Rattle.std.proofs.Common.{◌≡◌, ℕ, ◌<◌, nat_lt, true, false, le_refl, Bool, Option, None, Some, List, [], ◌∷◌, ap, refl, sym, subst, ◌∙◌}
 use Rattle.std.specs.List.{All}
 use Rattle.std.proofs.lemmas.List.Elements.{All-cons, All-nil}
 use Rattle.std.proofs.lemmas.Bool.{cond_both}
 use Rattle.craft_base.specs.Shape.{IsShape, Shape}
-use Rattle.craft_base.specs.Knowledge.{Beat, Matched}
+use Rattle.craft_base.specs.Knowledge.{Matched}
 use Rattle.entry_frames.specs.MessageParts.{receiver_byte}
-use Rattle.entry_frames.specs.Logs.{last_index, last_term}
 use Rattle.entry_frames.specs.declared.message.Message.{Message}
 use Rattle.entry_frames.specs.declared.message.Message.TheVariants as messages
 use Rattle.entry_frames.specs.declared.peer.Peer.{Peer}
@@ -16,14 +15,12 @@ use Rattle.entry_frames.specs.declared.role.Role.TheVariants.{Follower, Candidat
 use Rattle.world_model.specs.Nodes.{Node, node_hearing}
 use Rattle.world_model.specs.Rules.Acts.{Act, followed_by, keeping, message_of, sending, stays}
 use Rattle.leader_prep.specs.Pages.{Page, joins}
-use Rattle.world_model.specs.Rules.Answer.{act_of_answer_as, act_of_page, answer_heard, node_seeing}
+use Rattle.world_model.specs.Rules.Answer.{act_of_answer_as, act_of_page, answer_heard, node_seeing, node_shown}
 use Rattle.world_model.specs.Rules.Append.{following}
 use Rattle.world_model.specs.Rules.Ask.{act_of_ask_as, act_of_asked, page_from}
 use Rattle.world_model.specs.Rules.Matched.{log_heard}
-use Rattle.world_model.specs.Rules.Prepare.{act_of_asking_all, act_of_winning, cursor_at}
-use Rattle.world_model.specs.Rules.Say.{act_of_saying}
+use Rattle.world_model.specs.Rules.Prepare.{act_of_winning, cursor_at}
 use Rattle.world_model.specs.Rules.Terms.{act_of_higher_term, act_of_lower_term, act_of_term}
-use Rattle.world_model.specs.Rules.Tick.{act_of_asking_again, act_of_candidacy, act_of_election, act_of_tick, act_of_tick_as, act_of_waiting, is_due, waiting_node}
 use Rattle.world_model.specs.Rules.Vote.{act_of_grant, act_of_vote_from, act_of_vote_refusal, act_of_vote_request, is_grantor}
 use Rattle.world_model.specs.Rules.VoteReply.{act_of_count, act_of_vote_reply_as, has_won, vote_heard}
 use Rattle.world_model.specs.Traces.{Proposal}
@@ -39,53 +36,20 @@ use Rattle.bridge.specs.Traced.{AllStand, MessageStands, PageStands, PeerStands,
 use Rattle.bridge.specs.Views.{role_seen}
 use Rattle.bridge.proofs.Book.Append.{append_as_turned}
 use Rattle.bridge.proofs.Book.Committed.{matched_as_traced, refused_as_traced}
+use Rattle.bridge.proofs.Book.Filling.{shown_traced}
 use Rattle.bridge.proofs.Book.Kept.{proposals_stay}
 use Rattle.bridge.proofs.Book.Leading.{preparing_traced, unled_by_winning, unled_in_preparing, winning_traced}
 use Rattle.bridge.proofs.Book.Plain.{IsTraced, plain_traced, silent_traced, stays_traced, turned}
-use Rattle.bridge.proofs.Book.Sent.{appends_stand, one_stands, page_stands, stale_replies_stand, to_others_stand}
+use Rattle.bridge.proofs.Book.Sent.{one_stands, page_stands, stale_replies_stand}
 use Rattle.bridge.proofs.Starts.{leader_hearable, no_log_hearable}
 use Rattle.bridge.proofs.Facts.{hearing_agrees, message_stays}
 use Rattle.bridge.proofs.Rules.Answer.{answer_bridged}
 use Rattle.bridge.proofs.Rules.Ask.{ask_bridged}
 use Rattle.bridge.proofs.Rules.Matched.{matched_bridged, refused_bridged}
 use Rattle.bridge.proofs.Rules.Terms.{lower_term_bridged, term_bridged}
-use Rattle.bridge.proofs.Rules.Tick.{tick_bridged}
 use Rattle.bridge.proofs.Rules.Vote.{vote_request_bridged}
 use Rattle.bridge.proofs.Rules.VoteReply.{vote_reply_bridged, won_allowed}
 use Rattle.bridge.proofs.Steps.{reached_grows, then_moved, unmoved_stays}
-
--- ---- a tick
-
-module _ {shape : Shape} {g : History} {member : ℕ} {book : List Proposal} (n : Node) (stand : AllStand (holder shape member) book 1 n.durable.log)
-    (seen : All (PageStands shape book) n.volatile.pages) where
-  waiting_traced : (word : ℕ) → IsTraced shape g member n.durable book (act_of_waiting word n)
-  waiting_traced word =
-      cond_both (is_due n.volatile.quiet word n.durable.term) (act_of_election n) (stays n) (IsTraced shape g member n.durable book)
-      (λ due.
-      plain_traced n.durable stand (act_of_election n) seen refl (λ event. refl) (λ event. refl) (λ event. refl)
-      (λ more log. to_others_stand shape more (act_of_candidacy n).node (peers.Vote (last_term n.durable.log) (last_index n.durable.log)) (λ receiver. tt)))
-      (λ early. stays_traced n.durable stand n seen refl)
-
-  saying_traced : n.shape ≡ shape → IsTraced shape g member n.durable book (act_of_saying n)
-  saying_traced of_shape = silent_traced n.durable stand (act_of_saying n) seen refl refl (λ more log. appends_stand shape more member n of_shape log)
-
-  asking_again_traced : (cursor : Option ℕ) → IsTraced shape g member n.durable book (act_of_asking_again cursor n)
-  asking_again_traced None = stays_traced n.durable stand n seen refl
-  asking_again_traced (Some cursor) =
-      silent_traced n.durable stand (act_of_asking_all cursor n) seen refl refl (λ more log. to_others_stand shape more n (peers.Ask cursor) (λ receiver. tt))
-
-tick_as_traced :
-    {shape : Shape} {g : History} {member : ℕ} {book : List Proposal} (role : Role) (word : ℕ) (n : Node) → AllStand (holder shape member) book 1 n.durable.log →
-    All (PageStands shape book) n.volatile.pages → n.shape ≡ shape → IsTraced shape g member n.durable book (act_of_tick_as role word n)
-tick_as_traced Follower word n stand seen of_shape = waiting_traced (waiting_node n) stand seen word
-tick_as_traced Candidate word n stand seen of_shape = waiting_traced (waiting_node n) stand seen word
-tick_as_traced Preparing word n stand seen of_shape = asking_again_traced (node_hearing Beat n) stand seen (cursor_at n)
-tick_as_traced Leader word n stand seen of_shape = saying_traced (node_hearing Beat n) stand seen of_shape
-
-pub tick_turned :
-    {shape : Shape} {g : History} {member : ℕ} {n : Node} {book : List Proposal} (word : ℕ) → Reached shape.faults g → NodeAgrees shape g member n →
-    AllStand (holder shape member) book 1 n.durable.log → All (PageStands shape book) n.volatile.pages → TurnBridged shape g book member n.durable (act_of_tick word n)
-tick_turned {n = n} word reached a stand seen = turned (tick_bridged word reached a) (tick_as_traced n.volatile.role word n stand seen a.of_shape)
 
 -- ---- a message in the node's own term
 
@@ -162,7 +126,11 @@ module _
   answer_as_traced Follower e = stays_traced n.durable stand n seen refl
   answer_as_traced Candidate e = stays_traced n.durable stand n seen refl
   answer_as_traced Preparing e = page_traced e
-  answer_as_traced Leader e = stays_traced n.durable stand (node_hearing (answer_heard n page.sender) n) seen refl
+  answer_as_traced Leader e =
+      let now : Node = node_shown page (node_hearing (answer_heard n page.sender) n) in
+      shown_traced is _ now book a.of_shape a.me stand
+      (cond_both (joins n.volatile.want page) (page ∷ n.volatile.pages) n.volatile.pages (All (PageStands shape book))
+      (λ yes. All-cons (PageStands shape book) page n.volatile.pages shown seen) (λ no. seen)) proposed n.volatile.want
 
 module _
     {shape : Shape} {g : History} {member : ℕ} {n : Node} {book : List Proposal} (reached : Reached shape.faults g) (is : IsShape shape)

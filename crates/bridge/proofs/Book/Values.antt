@@ -1,5 +1,6 @@
--- The value that a preparation decides is the one that was proposed: whatever slots count, they stand in the book.
-use Rattle.std.proofs.Common.{◌≡◌, ◌≢◌, ℕ, zero, suc, ◌+◌, ◌<◌, ◌≤◌, ◌==◌, nat_le, Bool, List, [], ◌∷◌, ◌++◌, length, take, Option, None, Some, sym, ap, subst, ◌∙◌, arith, length-take-le}
+-- The value that a preparation decides, or that a leader gathers, is the one that was proposed: whatever slots count, they stand in the
+-- book.
+use Rattle.std.proofs.Common.{◌≡◌, ◌≢◌, ℕ, zero, suc, ◌+◌, ◌<◌, ◌≤◌, ◌==◌, nat_le, Bool, List, [], ◌∷◌, ◌++◌, length, take, Option, None, Some, refl, sym, ap, subst, ◌∙◌, arith, length-take-le}
 use Rattle.std.specs.List.{All, range_with_len}
 use Rattle.std.specs.Option.{option_or}
 use Rattle.std.proofs.lemmas.Bool.{and_parts, cond_both, eqb-true, leb-true}
@@ -10,6 +11,7 @@ use Rattle.craft_base.specs.Shape.{IsShape, Shape, members_of}
 use Rattle.craft_base.specs.declared.command.Entry.{Entry}
 use Rattle.craft_base.specs.declared.command.Form.{Form}
 use Rattle.craft_base.specs.declared.command.Form.TheVariants as forms
+use Rattle.leader_prep.specs.Pages.{Page, latest_slot}
 use Rattle.leader_prep.specs.Solutions.{value_of}
 use Rattle.leader_prep.specs.Verdicts as verdicts
 use Rattle.leader_prep.specs.Verdicts.{Verdict, first_whole, form_in, is_covered, is_same_head, is_usable, part_in, parts_of, rebuilding_by, usable_form, verdict, verdict_of_forms, verdict_of_parts, verdict_with, whole_in}
@@ -19,7 +21,8 @@ use Rattle.rs_code.specs.Rebuilding.{TakenPart}
 use Rattle.rs_code.specs.Roots.{AreMembers, Differs}
 use Rattle.world_model.specs.Safety.{Holds, command_in}
 use Rattle.world_model.specs.Traces.{Command, Proposal}
-use Rattle.bridge.specs.Traced.{Holder, IsOfBytes, StandsAt, holder}
+use Rattle.bridge.specs.Traced.{Holder, IsOfBytes, PageStands, StandsAt, holder}
+use Rattle.bridge.proofs.Pages.{latest_stands}
 
 -- ---- whose parts they are
 
@@ -147,10 +150,22 @@ module _
     by_forms None without right rest = rest
     by_forms (Some found) without right rest = right
 
+    -- whoever has shown what it holds there
+    pub forms_right : IsValueRight value (verdict_of_forms shape own (usable_form me own slot))
+    forms_right =
+        by_forms (first_whole (usable_form me own slot) (members shape)) (verdict_of_parts shape own (parts_of (usable_form me own slot) (members shape)))
+        (whole_right (members shape)) by_parts
+
     pub verdict_right : (shown : ℕ → Bool) → IsValueRight value (verdict shape me own shown slot)
     verdict_right shown =
         cond_both (is_covered shape me shown) (verdict_of_forms shape own (usable_form me own slot)) verdicts.Wait (IsValueRight value)
-        (λ covered.
-        by_forms (first_whole (usable_form me own slot) (members shape)) (verdict_of_parts shape own (parts_of (usable_form me own slot) (members shape)))
-        (whole_right (members shape)) by_parts)
-        (λ few. tt)
+        (λ covered. forms_right) (λ few. tt)
+
+-- what each member's latest page shows at an index stands at that member
+pub latest_slots_stand :
+    (shape : Shape) (book : List Proposal) (index : ℕ) (pages : List Page) → All (PageStands shape book) pages → (member : ℕ) →
+    SlotStands shape book index member (latest_slot member pages index)
+latest_slots_stand shape book index pages seen member = of_slot (latest_slot member pages index) refl where
+  of_slot : (o : Option Entry) → latest_slot member pages index ≡ o → SlotStands shape book index member o
+  of_slot None there = tt
+  of_slot (Some slot) there = latest_stands shape book index member pages seen slot there

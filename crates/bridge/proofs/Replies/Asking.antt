@@ -1,5 +1,5 @@
--- Call: what a leader kept of an answer is told of the commands that are committed, and a request that it adds stands at the end of its
--- log.
+-- Call: what a leader kept of an answer is told of the commands that are committed, or is waited for again; and a request that it adds
+-- stands at the end of its log.
 use Rattle.std.proofs.Common.{◌≡◌, ℕ, true, List, [], ◌∷◌, ◌++◌, length, take, Some, refl, sym, ap, subst, ◌∙◌, inl, inr, arith, le_refl}
 use Rattle.std.specs.List.{All}
 use Rattle.std.proofs.lemmas.Bool.{cond_both}
@@ -18,14 +18,15 @@ use Rattle.kv_apply.specs.declared.outcome.Outcome.{Outcome}
 use Rattle.kv_apply.proofs.Once.{kept_is_kept}
 use Rattle.kv_apply.proofs.Within.{same_within}
 use Rattle.world_model.specs.Nodes.{Node}
-use Rattle.world_model.specs.Rules.Applying.{reply_of}
-use Rattle.world_model.specs.Rules.Call.{act_of_asking, act_of_call, act_of_call_as, act_of_reply, act_of_request, applied_heads, entry_for, is_busy, is_full, reply_for}
+use Rattle.world_model.specs.Rules.Applying.{reply_of, version_awaited}
+use Rattle.world_model.specs.Rules.Call.{act_of_asking, act_of_call, act_of_call_as, act_of_kept, act_of_reply, act_of_request, applied_heads, call_from, entry_for, is_busy, is_full, reply_for}
 use Rattle.world_model.specs.Safety.{heads_in}
 use Rattle.world_model.specs.Traces.{Command}
 use Rattle.world_model.specs.declared.call.Called.{Called}
-use Rattle.bridge.proofs.Replies.Calls.{CallStands, CallsStand, IsToldBy, added_stands, calls_more, if_any_told}
+use Rattle.bridge.proofs.Replies.Answering.{ActAnswers, IsAnswering, Waits, in_role, of_role, silent}
+use Rattle.bridge.proofs.Replies.Calls.{CallStands, IsToldBy, added_stands, calls_more, if_any_told}
 use Rattle.bridge.proofs.Replies.Outcomes.{IsRefusal, IsTold, greater_in, heads_long}
-use Rattle.bridge.proofs.Replies.Rules.{ActAnswers, IsAnswering, of_role, silent}
+use Rattle.bridge.proofs.Replies.Reads.{kept_stands, reads_more, reads_with_stand}
 use Rattle.bridge.proofs.Replies.Standing.{StandForEach, same_heads, told_by_commands}
 
 module _ (place : ℕ) (r : Request) (n : Node) (calls : IsAnswering n) where
@@ -79,12 +80,13 @@ module _ (place : ℕ) (r : Request) (n : Node) (calls : IsAnswering n) where
         let entry = entry_for n.durable.term r in
         let log = n.durable.log ++ entry ∷ [] in
         let new : Called = record { index = length log; place = place; client = r.client; seq = r.seq } in
-        let before : All (CallStands log) n.volatile.calls = calls_more n.durable.log (entry ∷ []) n.volatile.calls (of_role n Leader leads calls) in
+        let waits : Waits Leader n.durable n.volatile = of_role n Leader leads calls in
+        let before : All (CallStands log) n.volatile.calls = calls_more n.durable.log (entry ∷ []) n.volatile.calls waits.0 in
         let all : All (CallStands log) (n.volatile.calls ++ new ∷ []) =
         All-append (CallStands log) n.volatile.calls (new ∷ []) before
         (All-cons (CallStands log) new [] (added_stands n.durable.log entry place r.client r.seq asked refl refl) (All-nil (CallStands log))) in
         silent (act_of_asking place r n) refl
-        (subst (λ role. CallsStand role log (n.volatile.calls ++ new ∷ [])) (sym leads) all)
+        (in_role (act_of_asking place r n).node Leader leads (all, reads_more n.durable.log (entry ∷ []) n.durable.commit n.volatile.reads waits.1))
 
     request_answers : (kept : Kept) → kept_of r.client r.seq (applied_heads n) ≡ kept → ActAnswers (act_of_request place r kept n)
     request_answers keeps.New e =
@@ -93,7 +95,13 @@ module _ (place : ℕ) (r : Request) (n : Node) (calls : IsAnswering n) where
         cond_both (is_busy n.durable.commit n.durable.log) (act_of_reply place r replies.Busy n) (act_of_asking place r n) ActAnswers
         (λ busy. refusal_answers replies.Busy tt) (λ free. asking_answers))
     request_answers (keeps.Same o) e = record {
-      calls = calls;
+      calls =
+          let waits : Waits Leader n.durable n.volatile = of_role n Leader leads calls in
+          let c : Called = call_from place r in
+          in_role (act_of_kept place r o n).node Leader leads (
+            waits.0,
+            reads_with_stand n.durable.log n.durable.commit c (version_awaited n.durable.log o) n.volatile.reads (kept_stands n.durable.log n.durable.commit c o e) waits.1,
+          );
       replies =
           if_any_told (IsToldBy n.durable.log n.durable.commit) (reply_for place r) (reply_of n.durable.log o)
           (λ reply is. (n.durable.commit, le_refl _, λ commands stand. same_told commands stand o e reply is));

@@ -111,7 +111,7 @@ module _ (log : List Entry) (place : ℕ) (entry : Entry) (here : slice_get log 
   abbrev earlier : List Head
   earlier = heads_of (take place log)
 
-  heads_here : heads_of (take (suc place) log) ≡ entry.head ∷ earlier
+  pub heads_here : heads_of (take (suc place) log) ≡ entry.head ∷ earlier
   heads_here = ap (λ it. heads_of it) (taken_more log place entry here) ∙ heads_with (take place log) entry
 
   module _ (asked : is_asked entry.head ≡ true) (commands : List Command) (stand : StandForEach (take (suc place) log) commands) where

@@ -1,5 +1,5 @@
 -- Lists: what is among them, and their fronts.
-use Rattle.std.proofs.Common.{◌≡◌, ℕ, zero, suc, ◌+◌, ◌<◌, ◌≤◌, ◌⊎◌, Bool, true, false, if◌then◌else◌, List, [], ◌∷◌, ◌++◌, length, map, take, Option, None, Some, slice_get, refl, sym, ap, subst, ◌∙◌, inl, inr, arith, append_assoc}
+use Rattle.std.proofs.Common.{◌≡◌, ℕ, zero, suc, ◌+◌, ◌<◌, ◌≤◌, ◌⊎◌, Bool, true, false, if◌then◌else◌, List, [], ◌∷◌, ◌++◌, length, map, take, Option, None, Some, slice_get, refl, sym, ap, subst, ◌∙◌, inl, inr, arith, append_assoc, append-nil}
 use Rattle.std.specs.List.{All, find, range_with_len}
 use Rattle.std.proofs.lemmas.List.Elements.{All-cons, All-head, All-nil, All-tail, All-weaker}
 use Rattle.std.proofs.lemmas.Option.{same_Some}
@@ -69,6 +69,9 @@ still_there (x ∷ xs) more (suc i) lt = still_there xs more i (omega (arith, lt
 pub front_trans : (one two three : List (Option Command)) → IsFront one two → IsFront two three → IsFront one three
 front_trans one two three first second =
     (first.0 ++ second.0, sym (append_assoc one first.0 second.0) ∙ ap (λ it. it ++ second.0) first.1 ∙ second.1)
+
+pub front_refl : (list : List (Option Command)) → IsFront list list
+front_refl list = ([], append-nil list)
 
 rest_of : List (Option Command) → List (Option Command)
 rest_of [] = []

@@ -116,7 +116,7 @@ indexes_more n m outcomes.Nothing le is = tt
 indexes_more n m outcomes.Old le is = tt
 
 -- the values of the versions that an outcome tells are the same
-told_more :
+pub told_more :
     (commands more : List Command) (o : Outcome) → TellsIndexes (length commands) o → told (value_in commands) o ≡ told (value_in (commands ++ more)) o
 told_more commands more (outcomes.Found version) is =
     let within : version - 1 < length commands = omega (arith, is.0, is.1) in

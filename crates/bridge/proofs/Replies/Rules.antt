@@ -1,9 +1,7 @@
 -- Each rule keeps what is said of the requests that wait, and what it tells clients is told of what is committed then. Only a leader
 -- adds requests, only at the end of its log, and no leader cuts its log.
-use Rattle.std.proofs.Common.{◌≡◌, ℕ, ◌+◌, ◌<◌, ◌==◌, min, nat_lt, Bool, true, Option, None, Some, List, [], ◌∷◌, ◌++◌, length, drop, take, refl, sym, subst}
-use Rattle.std.specs.List.{All}
+use Rattle.std.proofs.Common.{◌≡◌, ℕ, ◌+◌, ◌==◌, min, nat_lt, Bool, true, Option, None, Some, List, [], ◌∷◌, length, drop, take, refl}
 use Rattle.std.proofs.lemmas.Bool.{cond_both}
-use Rattle.std.proofs.lemmas.List.Elements.{All-append, All-nil, All-same}
 use Rattle.craft_base.specs.Knowledge.{Beat, Matched, Refused}
 use Rattle.craft_base.specs.declared.command.Entry.{Entry}
 use Rattle.entry_frames.specs.Limits.{last_place}
@@ -18,79 +16,32 @@ use Rattle.world_model.specs.Nodes.{Node, node_hearing}
 use Rattle.world_model.specs.Rules.Acts.{Act, followed_by, keeping, message_of, recording, sending, stays}
 use Rattle.world_model.specs.Rules.Append.{act_of_append_as, act_of_entries, act_of_heard_append, act_of_refusal, act_of_suited, act_of_taking, difference, following, has_before, is_clash, mask_of}
 use Rattle.leader_prep.specs.Pages.{Page}
-use Rattle.world_model.specs.Rules.Answer.{act_of_answer_as, answer_heard, node_seeing}
+use Rattle.world_model.specs.Rules.Answer.{act_of_answer_as, answer_heard, node_seeing, node_shown}
 use Rattle.world_model.specs.Rules.Ask.{act_of_ask_as, act_of_asked}
-use Rattle.world_model.specs.Rules.Applying.{act_of_applying, act_of_commit}
 use Rattle.world_model.specs.Rules.Matched.{act_of_matched_as, act_of_refused_as, act_of_retry, commit_of_leader, log_heard}
 use Rattle.world_model.specs.Rules.Prepare.{act_of_asking_all, act_of_asking_on, act_of_deciding, act_of_first, act_of_later, act_of_leading, act_of_preparing, act_of_winning, cursor_at, noop, preparing}
-use Rattle.world_model.specs.Rules.Say.{act_of_saying, append_if_any}
+use Rattle.world_model.specs.Rules.Say.{append_if_any}
 use Rattle.world_model.specs.Rules.Terms.{act_of_higher_term, act_of_lower_term, act_of_term}
-use Rattle.world_model.specs.Rules.Tick.{act_of_asking_again, act_of_election, act_of_tick_as, act_of_waiting, is_due, waiting_node}
+use Rattle.world_model.specs.Rules.Tick.{act_of_election, act_of_tick_as, act_of_waiting, is_due, waiting_node}
 use Rattle.world_model.specs.Rules.Vote.{act_of_grant, act_of_vote_from, act_of_vote_refusal, act_of_vote_request, is_grantor}
 use Rattle.world_model.specs.Rules.VoteReply.{act_of_count, act_of_vote_reply_as, has_won, vote_heard}
 use Rattle.world_model.specs.Turn.{act_of_message, act_of_peer}
-use Rattle.world_model.specs.declared.call.Called.{Called}
-use Rattle.bridge.proofs.Replies.Calls.{CallStands, CallsStand, IsToldBy, applying_told, each_stands, some_stand}
-use Rattle.bridge.proofs.Rules.Applying.{grows_or_stays}
+use Rattle.bridge.proofs.Replies.Answering.{ActAnswers, IsAnswering, NobodyWaits, asking_again_answers, beat_answers, commit_answers, in_role, of_role, silent, still_waits}
+use Rattle.bridge.proofs.Replies.Filling.{shown_answers}
 use Rattle.bridge.proofs.Beginning.{announcing}
-
--- each request that waits at the node stands in its log
-abbrev pub IsAnswering : Node → Type 0
-IsAnswering n = CallsStand n.volatile.role n.durable.log n.volatile.calls
-
--- so it is when the rule is done, and each reply is told of what is committed then
-pub record ActAnswers (act : Act) : Type 0 where
-  pub calls : IsAnswering act.node
-  pub replies : All (IsToldBy act.node.durable.log act.node.durable.commit) act.replies
-
--- an act that tells clients nothing
-pub silent : (act : Act) → act.replies ≡ [] → IsAnswering act.node → ActAnswers act
-silent act none calls = record {
-  calls = calls;
-  replies =
-      All-same (IsToldBy act.node.durable.log act.node.durable.commit) act.replies [] none
-      (All-nil (IsToldBy act.node.durable.log act.node.durable.commit));
-}
-
-pub of_role : (n : Node) (role : Role) → n.volatile.role ≡ role → IsAnswering n → CallsStand role n.durable.log n.volatile.calls
-of_role n role e calls = subst (λ r. CallsStand r n.durable.log n.volatile.calls) e calls
-
--- a node that doesn't lead, and waits to answer nothing
-none_waits : (n : Node) (role : Role) → n.volatile.role ≡ role → CallsStand role n.durable.log n.volatile.calls → IsAnswering n
-none_waits n role e calls = subst (λ r. CallsStand r n.durable.log n.volatile.calls) (sym e) calls
-
--- ---- a commit index that grows
-
-module _ (n : Node) (index : ℕ) (sends : Node → List Message) (calls : IsAnswering n) where
-  growing_answers : n.durable.commit < index → ActAnswers (followed_by (act_of_applying index n) (λ now. sending (sends now) (stays now)))
-  growing_answers grows = record {
-    calls = some_stand (λ c. nat_lt index c.index) n.volatile.role n.durable.log n.volatile.calls calls;
-    replies =
-        All-append (IsToldBy n.durable.log index) (act_of_applying index n).replies []
-        (applying_told n.durable.log n.volatile.calls (each_stands n.volatile.role n.durable.log n.volatile.calls calls) n.durable.commit index grows)
-        (All-nil (IsToldBy n.durable.log index));
-  }
-
-  commit_answers : ActAnswers (followed_by (act_of_commit index n) (λ now. sending (sends now) (stays now)))
-  commit_answers =
-      grows_or_stays n index (λ act. ActAnswers (followed_by act (λ now. sending (sends now) (stays now)))) growing_answers (silent _ refl calls)
 
 -- ---- a tick
 
-waiting_answers : (n : Node) (word : ℕ) → n.volatile.calls ≡ [] → IsAnswering n → ActAnswers (act_of_waiting word n)
+waiting_answers : (n : Node) (word : ℕ) → NobodyWaits n.volatile → IsAnswering n → ActAnswers (act_of_waiting word n)
 waiting_answers n word none calls =
     cond_both (is_due n.volatile.quiet word n.durable.term) (act_of_election n) (stays n) ActAnswers
     (λ due. silent (act_of_election n) refl none) (λ early. silent (stays n) refl calls)
-
-asking_again_answers : (cursor : Option ℕ) (n : Node) → IsAnswering n → ActAnswers (act_of_asking_again cursor n)
-asking_again_answers None n calls = silent (stays n) refl calls
-asking_again_answers (Some cursor) n calls = silent (act_of_asking_all cursor n) refl calls
 
 tick_as_answers : (role : Role) (word : ℕ) (n : Node) → n.volatile.role ≡ role → IsAnswering n → ActAnswers (act_of_tick_as role word n)
 tick_as_answers Follower word n e calls = waiting_answers (waiting_node n) word (of_role n Follower e calls) calls
 tick_as_answers Candidate word n e calls = waiting_answers (waiting_node n) word (of_role n Candidate e calls) calls
 tick_as_answers Preparing word n e calls = asking_again_answers (cursor_at n) (node_hearing Beat n) calls
-tick_as_answers Leader word n e calls = silent (act_of_saying (node_hearing Beat n)) refl calls
+tick_as_answers Leader word n e calls = beat_answers (node_hearing Beat n) calls
 
 -- ---- votes
 
@@ -106,47 +57,37 @@ vote_request_answers n candidate last_term last calls =
     (λ granted. vote_from_answers n candidate n.durable.vote calls) (λ refused. silent (act_of_vote_refusal candidate n) refl calls)
 
 -- who begins to lead waits to answer nothing yet
-leading_answers : (n : Node) → n.volatile.calls ≡ [] → ActAnswers (act_of_leading n)
+leading_answers : (n : Node) → NobodyWaits n.volatile → ActAnswers (act_of_leading n)
 leading_answers n none =
     cond_both (nat_lt (length n.durable.log) last_place) (recording (Add (noop n.durable.term)) (stays n)) (stays n)
     (λ act. ActAnswers (announcing n act))
-    (λ room. silent _ refl (All-same (CallStands (n.durable.log ++ noop n.durable.term ∷ [])) n.volatile.calls [] none (All-nil (CallStands (n.durable.log ++ noop n.durable.term ∷ [])))))
-    (λ full. silent _ refl (All-same (CallStands n.durable.log) n.volatile.calls [] none (All-nil (CallStands n.durable.log))))
+    (λ room. silent _ refl (still_waits (announcing n (recording (Add (noop n.durable.term)) (stays n))).node none))
+    (λ full. silent _ refl (still_waits (announcing n (stays n)).node none))
 
--- whoever waits to answer nothing
-nothing_waits : (role : Role) (log : List Entry) (calls : List Called) → calls ≡ [] → CallsStand role log calls
-nothing_waits Leader log calls none = All-same (CallStands log) calls [] none (All-nil (CallStands log))
-nothing_waits Follower log calls none = none
-nothing_waits Candidate log calls none = none
-nothing_waits Preparing log calls none = none
-
-still_waits : (n : Node) → n.volatile.calls ≡ [] → IsAnswering n
-still_waits n none = nothing_waits n.volatile.role n.durable.log n.volatile.calls none
-
-first_answers : (left : Option ℕ) (n : Node) → n.volatile.calls ≡ [] → ActAnswers (act_of_first left n)
+first_answers : (left : Option ℕ) (n : Node) → NobodyWaits n.volatile → ActAnswers (act_of_first left n)
 first_answers None n none = leading_answers n none
 first_answers (Some cursor) n none = silent (act_of_asking_all cursor n) refl (still_waits n none)
 
-later_answers : (before left : Option ℕ) (n : Node) → n.volatile.calls ≡ [] → ActAnswers (act_of_later before left n)
+later_answers : (before left : Option ℕ) (n : Node) → NobodyWaits n.volatile → ActAnswers (act_of_later before left n)
 later_answers before None n none = leading_answers n none
 later_answers None (Some cursor) n none = silent (stays n) refl (still_waits n none)
 later_answers (Some before) (Some cursor) n none =
     cond_both (before == cursor) (stays n) (act_of_asking_on cursor n) ActAnswers
     (λ same. silent (stays n) refl (still_waits n none)) (λ moved. silent (act_of_asking_on cursor n) refl (still_waits n none))
 
-winning_answers : (n : Node) → n.volatile.calls ≡ [] → ActAnswers (act_of_winning n)
+winning_answers : (n : Node) → NobodyWaits n.volatile → ActAnswers (act_of_winning n)
 winning_answers n none =
     let decided : Node = (act_of_deciding (record n { volatile = preparing n })).node in
     let next = first_answers (cursor_at decided) decided none in
     record { calls = next.calls; replies = next.replies }
 
-preparing_answers : (n : Node) → n.volatile.calls ≡ [] → ActAnswers (act_of_preparing n)
+preparing_answers : (n : Node) → NobodyWaits n.volatile → ActAnswers (act_of_preparing n)
 preparing_answers n none =
     let decided : Node = (act_of_deciding n).node in
     let next = later_answers (cursor_at n) (cursor_at decided) decided none in
     record { calls = next.calls; replies = next.replies }
 
-count_answers : (n : Node) → n.volatile.calls ≡ [] → IsAnswering n → ActAnswers (act_of_count n)
+count_answers : (n : Node) → NobodyWaits n.volatile → IsAnswering n → ActAnswers (act_of_count n)
 count_answers n none calls =
     cond_both (has_won n) (act_of_winning n) (stays n) ActAnswers (λ won. winning_answers n none) (λ waits. silent (stays n) refl calls)
 
@@ -160,14 +101,14 @@ vote_reply_as_answers Leader n sender granted e calls = silent (stays (node_hear
 
 -- ---- entries of a leader, which a node that waits to answer none takes
 
-module _ (leader prev : ℕ) (entries : List Entry) (n : Node) (follows : n.volatile.role ≡ Follower) (none : n.volatile.calls ≡ []) where
+module _ (leader prev : ℕ) (entries : List Entry) (n : Node) (follows : n.volatile.role ≡ Follower) (none : NobodyWaits n.volatile) where
   taking_answers : (commit : ℕ) → ActAnswers (act_of_taking leader prev commit entries n)
   taking_answers commit =
       let taken = (act_of_entries prev entries n).node in
       let then_told =
       commit_answers taken (min commit (prev + length entries))
       (λ now. message_of now (peers.Matched prev (length entries) (mask_of (take (length entries) (drop prev now.durable.log)))) leader ∷ [])
-      (none_waits taken Follower follows none) in
+      (in_role taken Follower follows none) in
       record { calls = then_told.calls; replies = then_told.replies }
 
   heard_append_answers : (prev_term commit : ℕ) → ActAnswers (act_of_heard_append leader prev prev_term commit entries n)
@@ -175,8 +116,8 @@ module _ (leader prev : ℕ) (entries : List Entry) (n : Node) (follows : n.vola
       cond_both (has_before n.durable.log prev prev_term) (act_of_suited leader prev commit entries n) (act_of_refusal leader n) ActAnswers
       (λ here.
       cond_both (is_clash n.durable.commit (difference prev n.durable.log entries)) (stays n) (act_of_taking leader prev commit entries n) ActAnswers
-      (λ clashes. silent (stays n) refl (none_waits n Follower follows none)) (λ suits. taking_answers commit))
-      (λ lacks. silent (act_of_refusal leader n) refl (none_waits n Follower follows none))
+      (λ clashes. silent (stays n) refl (in_role n Follower follows none)) (λ suits. taking_answers commit))
+      (λ lacks. silent (act_of_refusal leader n) refl (in_role n Follower follows none))
 
 append_as_answers :
     (role : Role) (n : Node) (leader prev prev_term commit : ℕ) (entries : List Entry) → n.volatile.role ≡ role → IsAnswering n →
@@ -207,7 +148,7 @@ refused_as_answers Leader n sender next calls = silent (act_of_retry sender (nod
 
 -- ---- who asks, whom a node that waits to answer none follows
 
-asked_answers : (n : Node) (asker start : ℕ) → n.volatile.calls ≡ [] → ActAnswers (act_of_asked asker start n)
+asked_answers : (n : Node) (asker start : ℕ) → NobodyWaits n.volatile → ActAnswers (act_of_asked asker start n)
 asked_answers n asker start none = silent (act_of_asked asker start n) refl none
 
 ask_as_answers : (role : Role) (n : Node) (asker start : ℕ) → n.volatile.role ≡ role → IsAnswering n → ActAnswers (act_of_ask_as role n asker start)
@@ -216,13 +157,13 @@ ask_as_answers Candidate n asker start e calls = asked_answers n asker start (of
 ask_as_answers Preparing n asker start e calls = silent (stays n) refl calls
 ask_as_answers Leader n asker start e calls = silent (stays n) refl calls
 
--- ---- what others show, which only a node that waits to answer none makes use of
+-- ---- what others show, of which a node that waits to answer none decides, and a leader has a value
 
 answer_as_answers : (role : Role) (n : Node) (page : Page) → n.volatile.role ≡ role → IsAnswering n → ActAnswers (act_of_answer_as role n page)
 answer_as_answers Follower n page e calls = silent (stays n) refl calls
 answer_as_answers Candidate n page e calls = silent (stays n) refl calls
 answer_as_answers Preparing n page e calls = preparing_answers (node_seeing page (node_hearing (answer_heard n page.sender) n)) (of_role n Preparing e calls)
-answer_as_answers Leader n page e calls = silent (stays (node_hearing (answer_heard n page.sender) n)) refl calls
+answer_as_answers Leader n page e calls = shown_answers n.volatile.want (node_shown page (node_hearing (answer_heard n page.sender) n)) e calls
 
 -- ---- a message
 
@@ -240,7 +181,7 @@ peer_answers n sender (peers.Answer start last slots) calls =
 behind_term_answers : (at : ℕ) (n : Node) (rule : Node → Act) → IsAnswering n → ((now : Node) → IsAnswering now → ActAnswers (rule now)) → ActAnswers (followed_by (act_of_term at n) rule)
 behind_term_answers at n rule calls each =
     cond_both (nat_lt n.durable.term at) (act_of_higher_term at n) (stays n) (λ act. ActAnswers (followed_by act rule))
-    (λ higher. let next = each (act_of_higher_term at n).node refl in record { calls = next.calls; replies = next.replies })
+    (λ higher. let next = each (act_of_higher_term at n).node (refl, refl) in record { calls = next.calls; replies = next.replies })
     (λ same. let next = each n calls in record { calls = next.calls; replies = next.replies })
 
 pub message_answers : (m : Message) (n : Node) → IsAnswering n → ActAnswers (act_of_message m n)

@@ -16,14 +16,16 @@ use Rattle.bridge.specs.Agreement.{WorldAgrees}
 use Rattle.bridge.specs.Traced.{AllStand, Holder}
 use Rattle.bridge.proofs.Book.Standing.{stand_take}
 use Rattle.bridge.proofs.Furthest.{IsCommitted, furthest_committed}
+use Rattle.bridge.proofs.Replies.Dates.{IsDated}
 use Rattle.bridge.proofs.Replies.Lists.{front_of_commands, is_in}
 use Rattle.bridge.proofs.Replies.Outcomes.{told_longer, told_of_one_map}
 use Rattle.bridge.proofs.Replies.World.{IsToldOf, MemberAnswers, WorldAnswers, step_answers}
 
 pub start_answers : (shape : Shape) (listed : List (Option Command)) → WorldAnswers listed (start shape)
 start_answers shape listed = record {
-  members = All-replicate MemberAnswers (members_of shape) newborn refl;
-  told = All-nil (IsToldOf listed);
+  members = All-replicate MemberAnswers (members_of shape) newborn (refl, refl);
+  told = All-nil (IsToldOf listed []);
+  dated = All-nil (IsDated 0);
 }
 
 -- after each front of the events what is committed is held, and is a front of that list
@@ -57,8 +59,8 @@ answers_as_one_map {shape = shape} {h = h} {w = w} reached a answers =
       commands = list.0;
       are = list.1;
       replies = λ r among.
-          let told : IsToldOf (committed w) r = is_in (IsToldOf (committed w)) w.replies answers.told r among in
-          let more = front_of_commands told.0 told.1.0 list.0 (told.1.1 ∙ list.1) in
+          let told : IsToldOf (committed w) w.book r = is_in (IsToldOf (committed w) w.book) w.replies answers.told r among in
+          let more = front_of_commands told.commands told.front.0 list.0 (told.front.1 ∙ list.1) in
           subst (λ commands. IsOfOneMap commands r.client r.seq r.reply) more.1
-          (told_of_one_map (told.0 ++ more.0) r.client r.seq r.reply (told_longer told.0 more.0 r.client r.seq r.reply told.2));
+          (told_of_one_map (told.commands ++ more.0) r.client r.seq r.reply (told_longer told.commands more.0 r.client r.seq r.reply told.told));
     }

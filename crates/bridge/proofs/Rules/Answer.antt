@@ -1,5 +1,6 @@
--- Answer: a member that prepares sees a page more, and decides; any other makes no move.
-use Rattle.std.proofs.Common.{◌≡◌, ℕ, true, List, ◌∷◌, Option, None, Some, refl, subst, sym}
+-- Answer: a member that prepares sees a page more, and decides; a leader that has the value which it wants makes the move rebuild; any
+-- other makes no move.
+use Rattle.std.proofs.Common.{◌≡◌, ℕ, ◌==◌, true, List, ◌∷◌, Option, None, Some, refl, subst, sym}
 use Rattle.std.specs.List.{All}
 use Rattle.std.proofs.lemmas.Bool.{cond_both, leb-true}
 use Rattle.std.proofs.lemmas.List.Elements.{All-cons}
@@ -8,9 +9,12 @@ use Rattle.craft_base.specs.declared.command.Entry.{Entry}
 use Rattle.entry_frames.specs.declared.role.Role.{Role}
 use Rattle.entry_frames.specs.declared.role.Role.TheVariants.{Follower, Candidate, Preparing, Leader}
 use Rattle.leader_prep.specs.Pages.{Page, joined, joins}
+use Rattle.leader_prep.specs.Solutions.{value_of}
+use Rattle.leader_prep.specs.Verdicts.{Source}
 use Rattle.world_model.specs.Nodes.{Node, node_hearing}
-use Rattle.world_model.specs.Rules.Answer.{act_of_answer, act_of_answer_as, act_of_page, answer_heard, node_seeing}
+use Rattle.world_model.specs.Rules.Answer.{act_of_answer, act_of_answer_as, act_of_having, act_of_page, act_of_shown, act_of_source, act_of_supplying, act_of_value, answer_heard, node_seeing, node_shown, source_at}
 use Rattle.world_model.specs.Rules.Prepare.{cursor_at}
+use Rattle.world_model.specs.Rules.Say.{start_of}
 use Rattle.world_model.specs.Traces.{Proposal}
 use Rattle.protocol.specs.History.{History}
 use Rattle.protocol.specs.Moves.{Reached}
@@ -18,9 +22,11 @@ use Rattle.bridge.specs.Agreement.{BeginsBy, NodeAgrees, PageAgrees, PagesAgree}
 use Rattle.bridge.specs.Bridges.{ActBridged}
 use Rattle.bridge.specs.Traced.{AllStand, PageStands, holder}
 use Rattle.bridge.proofs.Facts.{hearing_agrees}
+use Rattle.bridge.proofs.Filling.{filled, filled_agrees, fills}
 use Rattle.bridge.proofs.Rules.Prepare.{preparing_bridged}
-use Rattle.bridge.proofs.Starts.{no_log_hearable}
-use Rattle.bridge.proofs.Steps.{unmoved_stays}
+use Rattle.bridge.proofs.Rules.Say.{some_appends_agree}
+use Rattle.bridge.proofs.Starts.{no_log_hearable, pages_leader}
+use Rattle.bridge.proofs.Steps.{moved_then, sends_none, unmoved, unmoved_stays}
 
 -- a page that joins begins by the cursor
 begins_by : (cursor : Option ℕ) (page : Page) → joins cursor page ≡ true → BeginsBy cursor page
@@ -33,6 +39,30 @@ pages_joined :
 pages_joined h term cursor page pages shown agree =
     cond_both (joins cursor page) (page ∷ pages) pages (PagesAgree Preparing h term cursor)
     (λ yes. (All-cons (PageAgrees h term) page pages shown agree.0, All-cons (BeginsBy cursor) page pages (begins_by cursor page yes) agree.1)) (λ no. agree)
+
+-- ---- a leader
+
+module _
+    {shape : Shape} {g : History} {member : ℕ} {n : Node} (reached : Reached shape.faults g) (a : NodeAgrees shape g member n)
+    (leads : n.volatile.role ≡ Leader) where
+  -- it has a value, and sends to those who lack it
+  value_bridged : (index : ℕ) (value : List ℕ) → ActBridged shape g member (act_of_value index value n)
+  value_bridged index value =
+      let h : History = filled reached a leads index value in
+      let now : Node = (act_of_having index value n).node in
+      let node : NodeAgrees shape h member now = filled_agrees reached a leads index value in
+      moved_then reached (act_of_having index value n) (act_of_supplying index) (fills reached a leads index value) node (sends_none h)
+      (λ later. unmoved (act_of_supplying index now) node (some_appends_agree later node leads (λ receiver. start_of now receiver == index)))
+
+  source_bridged : (index : ℕ) (source : Option Source) → ActBridged shape g member (act_of_source index source n)
+  source_bridged index None = unmoved_stays a
+  source_bridged index (Some source) = value_bridged index (value_of source)
+
+  shown_bridged : (want : Option ℕ) → ActBridged shape g member (act_of_shown want n)
+  shown_bridged None = unmoved_stays a
+  shown_bridged (Some index) = source_bridged index (source_at n index)
+
+-- ---- the rule
 
 module _
     {shape : Shape} {g : History} {member : ℕ} {n : Node} (reached : Reached shape.faults g) (is : IsShape shape) (a : NodeAgrees shape g member n)
@@ -62,6 +92,25 @@ module _
         needs = a.needs;
       }
 
+  -- a leader sees it too, of which nothing is said
+  shown_agrees : n.volatile.role ≡ Leader → NodeAgrees shape g member (node_shown page (node_hearing (answer_heard n page.sender) n))
+  shown_agrees leads =
+      let it = heard_agrees in
+      record {
+        of_shape = a.of_shape;
+        me = a.me;
+        within = a.within;
+        term = a.term;
+        vote = a.vote;
+        log = a.log;
+        commit = a.commit;
+        role = a.role;
+        heard = it.heard;
+        knows = it.knows;
+        pages = pages_leader g n.durable.term _ _ leads;
+        needs = a.needs;
+      }
+
   module _
       (book : List Proposal) (stand : AllStand (holder shape member) book 1 n.durable.log) (seen : All (PageStands shape book) n.volatile.pages)
       (sent : PageStands shape book page) where
@@ -75,7 +124,7 @@ module _
     answer_as_bridged Follower e = unmoved_stays a
     answer_as_bridged Candidate e = unmoved_stays a
     answer_as_bridged Preparing e = page_bridged e
-    answer_as_bridged Leader e = unmoved_stays heard_agrees
+    answer_as_bridged Leader e = shown_bridged reached (shown_agrees e) e n.volatile.want
 
 -- of whoever answers, its page agrees
 pub answer_bridged :

@@ -1,7 +1,6 @@
 -- Call: a leader that adds a request to its log makes the move propose, and sends the entry to those that have all before it; each
 -- other answer is no move.
-use Rattle.std.proofs.Common.{◌≡◌, ℕ, ◌==◌, length, map, refl}
-use Rattle.std.specs.Option.{option_to_list}
+use Rattle.std.proofs.Common.{◌≡◌, ℕ, ◌==◌, length, refl}
 use Rattle.std.proofs.lemmas.Bool.{cond_both}
 use Rattle.craft_base.specs.Knowledge.{next_index}
 use Rattle.craft_base.specs.Shape.{IsShape, Shape}
@@ -13,10 +12,9 @@ use Rattle.entry_frames.specs.declared.role.Role.TheVariants.{Follower, Candidat
 use Rattle.kv_apply.specs.Commands.{kept_of}
 use Rattle.kv_apply.specs.declared.outcome.Kept.{Kept}
 use Rattle.kv_apply.specs.declared.outcome.Kept.TheVariants as keeps
+use Rattle.kv_apply.specs.declared.outcome.Outcome.{Outcome}
 use Rattle.world_model.specs.Nodes.{Node}
-use Rattle.world_model.specs.Rules.Acts.{answering, stays}
-use Rattle.world_model.specs.Rules.Applying.{reply_of}
-use Rattle.world_model.specs.Rules.Call.{act_of_adding, act_of_asking, act_of_call, act_of_call_as, act_of_new_request, act_of_reply, act_of_request, act_of_telling, applied_heads, entry_for, is_busy, is_full, reply_for}
+use Rattle.world_model.specs.Rules.Call.{act_of_adding, act_of_asking, act_of_call, act_of_call_as, act_of_kept, act_of_new_request, act_of_reply, act_of_request, act_of_telling, applied_heads, entry_for, is_busy, is_full}
 use Rattle.protocol.specs.History as protocol
 use Rattle.protocol.specs.Moves.{Reached}
 use Rattle.bridge.specs.Agreement.{NodeAgrees}
@@ -44,6 +42,10 @@ module _
         (λ later. unmoved (act_of_telling now) added_agrees
         (some_appends_agree later added_agrees leads (λ receiver. next_index receiver now.volatile.heard now.volatile.first == length now.durable.log)))
 
+    -- a request that waits again changes nothing that agrees
+    kept_agrees : (outcome : Outcome) → NodeAgrees shape g member (act_of_kept place r outcome n).node
+    kept_agrees outcome = assumption a
+
     new_request_bridged : ActBridged shape g member (act_of_new_request place r n)
     new_request_bridged =
         cond_both (is_full n.durable.log) (act_of_reply place r replies.Full n) _ (ActBridged shape g member)
@@ -54,8 +56,7 @@ module _
 
     request_bridged : (kept : Kept) → ActBridged shape g member (act_of_request place r kept n)
     request_bridged keeps.New = new_request_bridged
-    request_bridged (keeps.Same outcome) =
-        unmoved (answering (map (reply_for place r) (option_to_list (reply_of n.durable.log outcome))) (stays n)) a (sends_none g)
+    request_bridged (keeps.Same outcome) = unmoved (act_of_kept place r outcome n) (kept_agrees outcome) (sends_none g)
     request_bridged keeps.Old = unmoved (act_of_reply place r replies.Old n) a (sends_none g)
 
   call_as_bridged : (role : Role) → n.volatile.role ≡ role → ActBridged shape g member (act_of_call_as role place r n)

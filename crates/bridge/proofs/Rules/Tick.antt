@@ -1,5 +1,5 @@
--- Tick: a member that stands makes the move of that name; a member that waits or beats makes none.
-use Rattle.std.proofs.Common.{◌≡◌, ℕ, suc, ◌+◌, Option, None, Some, refl, sym, ap, ◌∙◌, arith, length}
+-- Tick: a member that stands makes the move of that name; a member that waits, beats or asks makes none.
+use Rattle.std.proofs.Common.{◌≡◌, ℕ, suc, ◌+◌, Option, Some, refl, sym, ap, ◌∙◌, arith, length}
 use Rattle.std.proofs.lemmas.Bool.{cond_both}
 use Rattle.std.proofs.lemmas.List.Elements.{All-nil}
 use Rattle.craft_base.specs.Shape.{Shape}
@@ -10,10 +10,11 @@ use Rattle.entry_frames.specs.declared.role.Role.TheVariants.{Follower, Candidat
 use Rattle.craft_base.specs.Knowledge.{Beat}
 use Rattle.world_model.specs.Nodes.{Node, node_hearing}
 use Rattle.world_model.specs.Ranges.{IsOfNoLog}
-use Rattle.world_model.specs.Rules.Acts.{sending, stays}
-use Rattle.world_model.specs.Rules.Prepare.{act_of_asking_all, cursor_at}
-use Rattle.world_model.specs.Rules.Say.{appends_to_others}
-use Rattle.world_model.specs.Rules.Tick.{act_of_asking_again, act_of_candidacy, act_of_election, act_of_tick, act_of_tick_as, act_of_waiting, is_due, waiting_node}
+use Rattle.world_model.specs.Rules.Acts.{stays}
+use Rattle.world_model.specs.Rules.Prepare.{act_of_asking_again, cursor_at}
+use Rattle.world_model.specs.Rules.Say.{act_of_saying}
+use Rattle.world_model.specs.Rules.Want.{act_of_gathering}
+use Rattle.world_model.specs.Rules.Tick.{act_of_beat, act_of_candidacy, act_of_election, act_of_tick, act_of_tick_as, act_of_waiting, is_due, waiting_node}
 use Rattle.world_model.proofs.Ranges.Deciding.{cursor_within}
 use Rattle.protocol.specs.History as protocol
 use Rattle.protocol.specs.Logs.{last_term}
@@ -22,8 +23,9 @@ use Rattle.protocol.proofs.Counting.{put_same, put_at_same}
 use Rattle.bridge.specs.Agreement.{AskAgrees, HeardAgrees, NodeAgrees}
 use Rattle.bridge.specs.Bridges.{ActBridged}
 use Rattle.bridge.proofs.Facts.{hearing_agrees}
-use Rattle.bridge.proofs.Steps.{moved, own_move, sends_to_others, unmoved, unmoved_stays}
+use Rattle.bridge.proofs.Steps.{moved, moved_then, own_move, own_none, sends_to_others, unmoved_stays}
 use Rattle.bridge.proofs.Rules.Say.{appends_agree}
+use Rattle.bridge.proofs.Rules.Want.{again_agrees, gathering_agrees, unmoved_by}
 use Rattle.bridge.proofs.Starts.{no_log_hearable}
 use Rattle.bridge.proofs.Views.{length_seen, last_term_seen}
 
@@ -76,23 +78,22 @@ module _ {shape : Shape} {g : protocol.History} {member : ℕ} {n : Node} (a : N
   beat_agrees : NodeAgrees shape g member (node_hearing Beat n)
   beat_agrees = hearing_agrees Beat a (no_log_hearable n.volatile.role (length n.durable.log) Beat tt) tt
 
--- a leader that beats sends to each other member from where it lacks something, and makes no move
+-- a leader that beats sends to each other member from where it lacks something, and asks for what it wants, and makes no move
 beat_bridged :
     {shape : Shape} {g : protocol.History} {member : ℕ} {n : Node} → Reached shape.faults g → NodeAgrees shape g member n →
-    n.volatile.role ≡ Leader →
-    ActBridged shape g member (sending (appends_to_others (node_hearing Beat n)) (stays (node_hearing Beat n)))
+    n.volatile.role ≡ Leader → ActBridged shape g member (act_of_beat (node_hearing Beat n))
 beat_bridged {n = n} reached a leads =
-    unmoved (sending (appends_to_others (node_hearing Beat n)) (stays (node_hearing Beat n))) (beat_agrees a)
-    (appends_agree reached (beat_agrees a) leads)
+    let now : Node = node_hearing Beat n in
+    moved_then reached (act_of_saying now) act_of_gathering (own_none _) (beat_agrees a) (appends_agree reached (beat_agrees a) leads)
+    (λ still. unmoved_by (act_of_gathering now) (gathering_agrees leads (beat_agrees a)))
 
 -- who prepares asks for what stands from an index on, and makes no move
 asking_bridged :
     {shape : Shape} {g : protocol.History} {member : ℕ} {n : Node} (cursor : Option ℕ) → cursor_at n ≡ cursor → NodeAgrees shape g member n →
     ActBridged shape g member (act_of_asking_again cursor n)
-asking_bridged None e a = unmoved_stays a
-asking_bridged {g = g} {n = n} (Some cursor) e a =
-    let within = cursor_within n.durable.commit n.durable.log cursor e in
-    unmoved (act_of_asking_all cursor n) a (sends_to_others g n (peers.Ask cursor) (λ receiver. omega (arith, within.0)))
+asking_bridged {n = n} cursor e a =
+    unmoved_by (act_of_asking_again cursor n)
+    (again_agrees cursor (λ index is. let within = cursor_within n.durable.commit n.durable.log index (e ∙ is) in omega (arith, within.0)) a)
 
 tick_as_bridged :
     {shape : Shape} {g : protocol.History} {member : ℕ} {n : Node} (role : Role) (word : ℕ) → Reached shape.faults g → NodeAgrees shape g member n →

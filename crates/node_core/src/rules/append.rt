@@ -19,7 +19,7 @@ use full_append::{Plan, take_append};
 use peer_frames::{MessageView, Peer, Role};
 
 impl Act {
-    ghost use Rattle.node_core.specs.Acting.{Acts, IsFree, IsNode, IsRangedMember, MayRecord, Recorded};
+    ghost use Rattle.node_core.specs.Acting.{Acts, IsFree, IsIdle, IsNode, IsRangedMember, MayRecord, Recorded};
     ghost use Rattle.world_model.specs.Nodes.{Node};
     ghost use Rattle.world_model.specs.Rules.Acts.{message_of, sending, stays};
 
@@ -57,6 +57,7 @@ impl Act {
         requires may { MayTake self.member append.now.frame }
         requires stands { (n : Node) × IsNode self.member n }
         requires free { IsFree self.member }
+        requires idle { IsIdle self.member }
         ensures { IfOk result (Acts (heard_act append.now.frame) self) }
     {
         match plan {
@@ -90,6 +91,7 @@ impl Act {
         requires places { All (IsPlaceOf append.now.frame) wholes.now }
         requires may { MayRecord self.member (records_planned append.now.frame cut wholes.now first_new) }
         requires free { IsFree self.member }
+        requires idle { IsIdle self.member }
         ensures { IfOk result (Recorded (records_planned append.now.frame cut wholes.now first_new) self) }
     {
         let act = self.complete(append, wholes)?;
@@ -103,6 +105,7 @@ impl Act {
         requires places { All (IsPlaceOf append.now.frame) wholes.now }
         requires may { MayRecord self.member (map (value_record append.now.frame) wholes.now) }
         requires free { IsFree self.member }
+        requires idle { IsIdle self.member }
         ensures { IfOk result (Recorded (map (value_record append.now.frame) wholes.now) self) }
     {
         let mut act = self;
@@ -117,6 +120,7 @@ impl Act {
         requires place { IsPlaceOf append.now.frame index }
         requires may { MayRecord self.member (value_record append.now.frame index ∷ []) }
         requires free { IsFree self.member }
+        requires idle { IsIdle self.member }
         ensures { IfOk result (Recorded (value_record append.now.frame index ∷ []) self) }
     {
         let place = index - append.prev() - 1;
@@ -133,6 +137,7 @@ impl Act {
     pub(crate) fn cut(self, cut: Option<u64>) -> Result<Act, OutOfMemory>
         requires may { MayRecord self.member (map Cut (option_to_list cut)) }
         requires free { IsFree self.member }
+        requires idle { IsIdle self.member }
         ensures { IfOk result (Recorded (map Cut (option_to_list cut)) self) }
     {
         match cut {
@@ -147,6 +152,7 @@ impl Act {
         requires kind { kind_of append.now.frame ≡ kinds.Peer peer_kinds.Append }
         requires may { MayRecord self.member (records_added append.now.frame first_new) }
         requires free { IsFree self.member }
+        requires idle { IsIdle self.member }
         ensures { IfOk result (Recorded (records_added append.now.frame first_new) self) }
     {
         let mut act = self;
@@ -162,6 +168,7 @@ impl Act {
         requires shape { append.now.shape ≡ self.member.store.shape }
         requires may { MayRecord self.member (records_added append.now.frame number) }
         requires free { IsFree self.member }
+        requires idle { IsIdle self.member }
         ensures { IfOk result (λ after. (e : Entry) → slice_get (entries_of (body_of append.now.frame)) number ≡ Some e → Recorded (Add e ∷ []) self after) }
     {
         match append.entry(number) {
@@ -185,12 +192,13 @@ impl Act {
 }
 
 impl Member {
-    ghost use Rattle.node_core.specs.Acting.{Becomes, IsFree};
+    ghost use Rattle.node_core.specs.Acting.{Becomes, IsFree, IsIdle};
 
     /// It is a follower of that member, which has won its term and of which it has just heard.
     pub(crate) fn hear_leader(&mut self, leader: MemberId)
         ensures becomes { Becomes (λ n. record n { volatile = following leader n }) self.old self.new }
         ensures free { IsFree self.new }
+        ensures idle { IsIdle self.new }
     {
         self.role = Role::Follower;
         self.hint = Some(leader);

@@ -1,5 +1,5 @@
 //! Applying: the commit index grows, and the map takes what is committed. A leader tells each client whose request is applied what
-//! it came to.
+//! it came to, or keeps the request where the value that was found is still to be had from others.
 ghost use Rattle.std.specs.Prelude.{◌≡◌, ◌+◌, ◌≤◌, ◌<◌, length, ℕ, List, ◌∷◌, ◌++◌, Some, IfOk, OnOk};
 ghost use Rattle.std.specs.Option.{option_to_list};
 ghost use Rattle.craft_base.specs.declared.command.Entry.{Entry};
@@ -8,7 +8,7 @@ ghost use Rattle.entry_frames.specs.Logs.{entry_at};
 ghost use Rattle.kv_apply.specs.Commands.{answer};
 ghost use Rattle.kv_apply.specs.Services as services;
 ghost use Rattle.kv_apply.specs.Services.{count_of};
-ghost use Rattle.node_core.specs.Serving.{IsServed, reply_told};
+ghost use Rattle.node_core.specs.Serving.{IsServed, reads_told, reply_told};
 ghost use Rattle.world_model.specs.Rules.Applying as rule;
 
 use crate::act::Act;
@@ -52,7 +52,8 @@ impl Act {
         Ok(act)
     }
 
-    /// Applies the entries behind the commit index up to that one, and tells those who wait for them what they come to.
+    /// Applies the entries behind the commit index up to that one, and tells those who wait for them what they come to; who found a
+    /// value that is still to be had waits for it.
     fn serve(self, index: u64) -> Result<Act, OutOfMemory>
         requires above { self.member.store.kept.commit < index }
         requires within { index ≤ length self.member.store.kept.log }
@@ -83,6 +84,7 @@ impl Act {
             sends: self.sends,
         };
         act.answer_if_any(told)?;
+        act.member.wait_at(index, outcome)?;
         Ok(act)
     }
 
@@ -125,11 +127,59 @@ impl Member {
                 hint: self.hint,
                 heard: self.heard,
                 prep: self.prep,
+                gather: self.gather,
                 service,
                 calls: self.calls,
+                reads: self.reads,
             },
             outcome,
         ))
+    }
+
+    /// Keeps the request whose entry has that index, and which came to that, where the value that it found is still to be had.
+    fn wait_at(&mut self, index: u64, outcome: Outcome) -> Result<(), OutOfMemory>
+        ensures reads { OnOk result (self.new.reads.items ≡ reads_told self.old.store.kept.log outcome (rule.call_at index self.old.calls.items) self.old.reads.items) }
+        ensures rest { OnOk result (self.new ≡ record self.old { reads = self.new.reads }) }
+    {
+        let Some(call) = call_at(&self.calls, index) else {
+            return Ok(());
+        };
+        let version = version_awaited(&self.store, outcome);
+        self.wait_for_value(call, version)
+    }
+
+    /// Keeps a request that waits for the value of a version, if it waits for one.
+    pub(crate) fn wait_for_value(
+        &mut self,
+        call: Called,
+        version: Option<u64>,
+    ) -> Result<(), OutOfMemory>
+        ensures reads { OnOk result (self.new.reads.items ≡ rule.reads_with call version self.old.reads.items) }
+        ensures rest { OnOk result (self.new ≡ record self.old { reads = self.new.reads }) }
+    {
+        let Some(index) = version else {
+            return Ok(());
+        };
+        self.read(Called {
+            index,
+            place: call.place,
+            client: call.client,
+            seq: call.seq,
+        })
+    }
+
+    /// Keeps a request that waits for a value, in order of clients. An earlier one of its client goes.
+    fn read(&mut self, call: Called) -> Result<(), OutOfMemory>
+        ensures reads { OnOk result (self.new.reads.items ≡ rule.reading call self.old.reads.items) }
+        ensures rest { OnOk result (self.new ≡ record self.old { reads = self.new.reads }) }
+    {
+        let mut behind = Vec::new(self.alloc);
+        behind.extend_from_slice(&self.reads)?;
+        behind.retain(|read| call.client < read.client);
+        self.reads.retain(|read| read.client < call.client);
+        self.reads.push(call)?;
+        self.reads.extend_from_slice(&behind)?;
+        Ok(())
     }
 
     /// What is told of the entry at an index, which came to that: nothing where nobody waits for it.
@@ -141,6 +191,30 @@ impl Member {
         };
         let reply = reply_of(self.alloc, &self.store, outcome)?;
         Ok(reply.map(|reply| reply_to(call, reply)))
+    }
+}
+
+/// The version whose value an outcome waits for: that which was found, where the log doesn't hold its value whole.
+pub(crate) fn version_awaited(store: &LogStore, outcome: Outcome) -> Option<u64>
+    ensures { result ≡ rule.version_awaited store.now.kept.log outcome }
+{
+    match outcome {
+        Outcome::Found(version) => if_awaited(store, version),
+        Outcome::Done(_)
+        | Outcome::Differs(_)
+        | Outcome::Gone(_)
+        | Outcome::Nothing
+        | Outcome::Old => None,
+    }
+}
+
+/// The version, where the log doesn't hold its value whole.
+fn if_awaited(store: &LogStore, version: u64) -> Option<u64>
+    ensures { result ≡ rule.awaited version (rule.value_of (entry_at store.now.kept.log version)) }
+{
+    match store.at(version) {
+        Some(entry) if entry.is_whole() => None,
+        _ => Some(version),
     }
 }
 
@@ -157,7 +231,7 @@ fn call_at(calls: &[Called], index: u64) -> Option<Called>
 }
 
 /// That reply to a request.
-fn reply_to(call: Called, reply: Reply) -> ClientReply
+pub(crate) fn reply_to(call: Called, reply: Reply) -> ClientReply
     ensures { result ≡ rule.reply_to call reply }
 {
     ClientReply {

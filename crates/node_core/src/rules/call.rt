@@ -14,7 +14,7 @@ ghost use Rattle.world_model.specs.Rules.Say.{append_to};
 
 use crate::act::Act;
 use crate::member::Member;
-use crate::rules::applying::reply_of;
+use crate::rules::applying::{reply_of, version_awaited};
 use craft_base::{Blob, Entry, Form, Head, Known, MemberId, OutOfMemory, Reply, Request};
 use entry_frames::{EntryView, LogView, Message, RecordView, Role};
 use kv_apply::{Kept, Outcome};
@@ -75,7 +75,7 @@ impl Act {
         }
     }
 
-    /// Answers a request that came before, by what it came to.
+    /// Answers a request that came before, by what it came to. Where the value that it found is still to be had, it waits for it.
     fn answer_again(
         self,
         place: u64,
@@ -84,9 +84,14 @@ impl Act {
     ) -> Result<Act, OutOfMemory>
         ensures { IfOk result (Acts (rule.act_of_request place request.now (keeps.Same outcome)) self) }
     {
-        match reply_of(self.member.alloc, &self.member.store, outcome)? {
-            Some(reply) => self.reply(place, request, reply),
-            None => Ok(self),
+        let reply = reply_of(self.member.alloc, &self.member.store, outcome)?;
+        let version = version_awaited(&self.member.store, outcome);
+        let mut act = self;
+        act.member
+            .wait_for_value(call_from(place, request), version)?;
+        match reply {
+            Some(reply) => act.reply(place, request, reply),
+            None => Ok(act),
         }
     }
 
@@ -207,6 +212,18 @@ impl Member {
             sends.push(self.append_to(receiver)?)?;
         }
         Ok(())
+    }
+}
+
+/// A request that came before, at the place from which it comes now.
+fn call_from(place: u64, request: &Request) -> Called
+    ensures { result ≡ rule.call_from place request.now }
+{
+    Called {
+        index: 0,
+        place,
+        client: request.client,
+        seq: request.seq,
     }
 }
 

@@ -111,8 +111,10 @@ impl Member {
             hint: self.hint,
             heard: self.heard.matched(sender, prev, count, mask, last)?,
             prep: self.prep,
+            gather: self.gather,
             service: self.service,
             calls: self.calls,
+            reads: self.reads,
         })
     }
 

@@ -197,11 +197,12 @@ impl Member {
 
     /// It leads: from `first` on it sends to those of whose logs nothing is known.
     fn begin_to_lead(&mut self, first: u64)
-        ensures { Becomes (λ n. record n { volatile = record n.volatile { role = Leader; hint = Some n.me; first = first; pages = [] } }) self.old self.new }
+        ensures { Becomes (λ n. record n { volatile = record n.volatile { role = Leader; hint = Some n.me; first = first; pages = []; want = None } }) self.old self.new }
     {
         self.role = Role::Leader;
         self.hint = Some(self.me);
         self.prep = None;
+        self.gather = None;
         self.heard.lead(first, self.store.commit());
     }
 }

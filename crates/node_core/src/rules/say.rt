@@ -169,7 +169,7 @@ impl Member {
     }
 
     /// From which index on entries go to a member.
-    fn start_for(&self, member: MemberId) -> u64
+    pub(crate) fn start_for(&self, member: MemberId) -> u64
         requires { MaySay self.now }
         ensures { (n : Node) → IsNode self.now n → result ≡ rule.start_of n member }
     {

@@ -63,12 +63,14 @@ impl Member {
 
     /// A follower in a new term: nobody is known to lead it, nothing was heard, and nobody is answered any more who asked before.
     fn enter_as_follower(&mut self) -> Result<(), OutOfMemory>
-        ensures { OnOk result (Becomes (λ n. record n { volatile = record n.volatile { role = Follower; hint = None; heard = []; first = 0; pages = []; calls = [] } }) self.old self.new) }
+        ensures { OnOk result (Becomes (λ n. record n { volatile = record n.volatile { role = Follower; hint = None; heard = []; first = 0; pages = []; calls = []; reads = []; want = None } }) self.old self.new) }
     {
         self.role = Role::Follower;
         self.hint = None;
         self.prep = None;
+        self.gather = None;
         self.calls.clear();
+        self.reads.clear();
         self.forget()
     }
 }

@@ -1,8 +1,9 @@
-//! Tick: a member that has heard nothing for long enough stands for election; a leader sends to all others.
+//! Tick: a member that has heard nothing for long enough stands for election; a leader sends to all others, and asks them for the
+//! value that it wants.
 ghost use Rattle.std.specs.Prelude.{◌≡◌, ◌<◌, [], None, IfOk, OnOk};
 ghost use Rattle.craft_base.specs.Knowledge.{Beat};
 ghost use Rattle.entry_frames.specs.Limits.{greatest};
-ghost use Rattle.entry_frames.specs.declared.role.Role.TheVariants.{Candidate, Preparing};
+ghost use Rattle.entry_frames.specs.declared.role.Role.TheVariants.{Candidate, Leader, Preparing};
 
 use crate::act::Act;
 use crate::member::Member;
@@ -14,11 +15,11 @@ use peer_frames::Role;
 const MOST_QUIET: u64 = 100;
 
 impl Act {
-    ghost use Rattle.node_core.specs.Acting.{Acts, IsRangedMember};
+    ghost use Rattle.node_core.specs.Acting.{Acts, IsRangedMember, MaySay};
     ghost use Rattle.world_model.specs.Nodes.{node_hearing};
     ghost use Rattle.world_model.specs.Rules.Acts.{stays};
-    ghost use Rattle.world_model.specs.Rules.Prepare.{cursor_at};
-    ghost use Rattle.world_model.specs.Rules.Tick.{act_of_asking_again, act_of_candidacy, act_of_tick, act_of_waiting, waiting_node};
+    ghost use Rattle.world_model.specs.Rules.Prepare.{act_of_asking_again, cursor_at};
+    ghost use Rattle.world_model.specs.Rules.Tick.{act_of_beat, act_of_candidacy, act_of_tick, act_of_waiting, waiting_node};
 
     /// Time passes. `word` chooses how many quiet ticks are enough.
     pub(crate) fn tick(self, word: u64) -> Result<Act, OutOfMemory>
@@ -28,7 +29,7 @@ impl Act {
         match self.member.role {
             Role::Follower | Role::Candidate => self.wait(word),
             Role::Preparing => self.beat().ask_again(),
-            Role::Leader => self.beat().append_to_others(),
+            Role::Leader => self.beat().append_and_gather(),
         }
     }
 
@@ -40,6 +41,16 @@ impl Act {
         let mut act = self;
         act.member.heard.beat();
         act
+    }
+
+    /// Sends to all others what each of them lacks, and then asks them for the value that it wants, if it wants one.
+    fn append_and_gather(self) -> Result<Act, OutOfMemory>
+        requires say { MaySay self.member }
+        requires leads { self.member.role ≡ Leader }
+        ensures { IfOk result (Acts act_of_beat self) }
+    {
+        let act = self.append_to_others()?;
+        act.gather()
     }
 
     /// Asks all others again what they hold, from the index on that is to be decided next.

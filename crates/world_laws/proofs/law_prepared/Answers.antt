@@ -1,5 +1,7 @@
 use Rattle.world_model.proofs.Preparing.Waiting.{every_preparing_waits}
-use Rattle.world_laws.proofs.Preparations.{each_answer_covers, enough_answers_move, moves_are_parts}
+use Rattle.world_laws.proofs.Asked.{each_answer_covers}
+use Rattle.world_laws.proofs.Moves.{moves_are_parts}
+use Rattle.world_laws.proofs.Preparations.{enough_answers_move}
 use Rattle.world_laws.proofs.law_prepared.Goals as goal
 
 pub returns-clause-waits : goal.returns-clause-waits

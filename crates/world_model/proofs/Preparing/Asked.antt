@@ -1,5 +1,5 @@
 -- What is asked for is shown: a page covers the index from which on it was asked.
-use Rattle.std.proofs.Common.{◌≡◌, ℕ, suc, ◌+◌, ◌-◌, ◌/◌, ◌%◌, ◌<◌, ◌≤◌, ◌&&◌, ◌||◌, min, nat_le, nat_lt, true, false, Bool, if◌then◌else◌, List, [], ◌∷◌, length, drop, slice_get, Option, None, Some, refl, sym, ap, subst, ◌∙◌, arith, length-drop}
+use Rattle.std.proofs.Common.{◌≡◌, ℕ, ◌+◌, ◌-◌, ◌/◌, ◌≤◌, ◌&&◌, ◌||◌, nat_le, nat_lt, true, false, Bool, if◌then◌else◌, List, [], ◌∷◌, length, drop, slice_get, Option, None, Some, refl, sym, ap, subst, ◌∙◌, arith, length-drop}
 use Rattle.std.specs.Prelude.{is_some}
 use Rattle.std.proofs.Math.Nat.{div-le_self}
 use Rattle.std.proofs.lemmas.Bool.{cond_both, leb-false, le-leb, lt-ltb, and_from, leb-true, and_parts}
@@ -19,7 +19,6 @@ use Rattle.entry_frames.specs.Logs.{last_index}
 use Rattle.entry_frames.specs.MessageFields.{entry_size}
 use Rattle.entry_frames.specs.Stored.{AreEntries}
 use Rattle.leader_prep.specs.Pages.{covers_in}
-use Rattle.world_model.specs.Nodes.{Node}
 use Rattle.world_model.specs.Preparing.{AnswersCover}
 use Rattle.world_model.proofs.Ranges.Batches.{dropped_are}
 

@@ -1,15 +1,15 @@
 -- What is left once a preparation has decided: the log up to the commit index as it was, and behind it what the verdicts leave.
-use Rattle.std.proofs.Common.{◌≡◌, ℕ, zero, suc, ◌+◌, ◌-◌, ◌<◌, ◌≤◌, true, false, Bool, if◌then◌else◌, List, [], ◌∷◌, ◌++◌, length, map, drop, take, Option, None, Some, refl, sym, ap, subst, ◌∙◌, arith, append_assoc, append-nil, length-append, length-drop, length-take}
+use Rattle.std.proofs.Common.{◌≡◌, ℕ, zero, suc, ◌+◌, ◌-◌, true, false, Bool, if◌then◌else◌, List, [], ◌∷◌, ◌++◌, length, map, drop, take, Option, None, Some, refl, sym, ap, subst, ◌∙◌, arith, append_assoc, append-nil, length-append, length-drop, length-take}
 use Rattle.std.specs.Option.{option_to_list}
 use Rattle.std.proofs.Math.Seq.{take-append_seam}
-use Rattle.std.proofs.lemmas.Bool.{cond_both, true≢false}
+use Rattle.std.proofs.lemmas.Bool.{cond_both}
 use Rattle.std.proofs.lemmas.Option.{same_Some}
 use Rattle.craft_base.specs.Shape.{Shape}
 use Rattle.craft_base.specs.declared.command.Entry.{Entry}
 use Rattle.entry_frames.specs.Durable.{Durable, after, applied, complete_at, completed}
 use Rattle.entry_frames.specs.Entries.{is_whole}
 use Rattle.entry_frames.specs.Records.{Cut, Record, Whole}
-use Rattle.leader_prep.specs.Decisions.{Decision, OpenPart, Rebuilt, cursor_of, decided, decision_at, first_index, open_parts, parts_from, verdict_at}
+use Rattle.leader_prep.specs.Decisions.{OpenPart, Rebuilt, cursor_of, decided, decision_at, first_index, open_parts, parts_from, verdict_at}
 use Rattle.leader_prep.specs.Pages.{is_shown, latest_slot}
 use Rattle.leader_prep.specs.Solutions.{value_of}
 use Rattle.leader_prep.specs.Verdicts as verdicts
@@ -17,7 +17,6 @@ use Rattle.leader_prep.specs.Verdicts.{Verdict, first_whole, is_covered, parts_o
 use Rattle.craft_base.specs.Knowledge.{members}
 use Rattle.rs_code.specs.Rebuilding.{TakenPart}
 use Rattle.world_model.specs.Nodes.{Node}
-use Rattle.world_model.specs.Rules.Prepare as rule
 use Rattle.world_model.specs.Rules.Prepare.{act_of_deciding, cursor_at, decided_records, whole_record}
 
 -- ---- what is left of entries

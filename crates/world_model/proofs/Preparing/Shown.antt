@@ -1,5 +1,5 @@
 -- What was shown in a preparation is kept, so answers of enough members move its cursor.
-use Rattle.std.proofs.Common.{◌≡◌, ℕ, ◌+◌, ◌-◌, ◌≤◌, ◌<◌, ◌==◌, ◌&&◌, ◌||◌, nat_le, nat_lt, true, false, Bool, if◌then◌else◌, List, [], ◌∷◌, drop, length, Option, None, Some, refl, sym, ap, subst, ◌∙◌, arith, cond, ◌⊎◌, inl, inr}
+use Rattle.std.proofs.Common.{◌≡◌, ℕ, ◌≤◌, ◌<◌, ◌==◌, ◌&&◌, ◌||◌, nat_le, nat_lt, true, false, Bool, if◌then◌else◌, List, [], ◌∷◌, drop, length, Option, None, Some, refl, sym, ap, subst, ◌∙◌, arith, cond, inl, inr}
 use Rattle.std.specs.List.{count_by}
 use Rattle.std.proofs.lemmas.List.Sums.{sum_by-cons}
 use Rattle.std.proofs.lemmas.Option.{same_Some}
@@ -28,14 +28,16 @@ use Rattle.world_model.specs.Rules.Append.{act_of_append_as, following}
 use Rattle.world_model.specs.Rules.Ask.{act_of_ask_as}
 use Rattle.world_model.specs.Rules.Call.{act_of_call_as}
 use Rattle.world_model.specs.Rules.Matched.{act_of_matched_as, act_of_refused_as}
-use Rattle.world_model.specs.Rules.Prepare.{act_of_asking_on, act_of_deciding, act_of_later, act_of_leading, cursor_at, leading, noop}
+use Rattle.world_model.specs.Rules.Prepare.{act_of_asking_again, act_of_asking_on, act_of_deciding, act_of_later, act_of_leading, cursor_at, leading, noop}
 use Rattle.world_model.specs.Rules.Terms.{act_of_higher_term, act_of_lower_term, act_of_term}
-use Rattle.world_model.specs.Rules.Tick.{act_of_asking_again, act_of_tick_as}
+use Rattle.world_model.specs.Rules.Tick.{act_of_tick_as}
+use Rattle.world_model.specs.Rules.Want.{act_of_new_want, want_of}
 use Rattle.world_model.specs.Rules.Vote.{act_of_grant, act_of_vote_from, act_of_vote_refusal, act_of_vote_request, is_grantor}
 use Rattle.world_model.specs.Rules.VoteReply.{act_of_vote_reply_as}
-use Rattle.world_model.specs.Turn.{Event, Tick, Frame, Call, act_of, act_of_message, act_of_peer}
+use Rattle.world_model.specs.Turn.{Event, Tick, Frame, Call, act_of, act_of_event, act_of_message, act_of_peer}
 use Rattle.world_model.proofs.Preparing.Left.{left_open}
 use Rattle.world_model.proofs.Preparing.Waiting.{heard_append_follows, turn_waits}
+use Rattle.world_model.proofs.Wanting.{new_want_keeps, want_keeps}
 
 -- ---- counting
 
@@ -266,10 +268,20 @@ message_keeps n term cursor (messages.Peer sender receiver at body) here =
 message_keeps n term cursor (messages.Request receiver request) here = by_same n cursor (stays n) (refl, refl)
 message_keeps n term cursor (messages.Answered sender client seq reply) here = by_same n cursor (stays n) (refl, refl)
 
+event_keeps : (n : Node) (term cursor : ℕ) (event : Event) → IsAt term cursor n → Keeps n cursor (λ member. is_answer_of term cursor member event) (act_of_event event n)
+event_keeps n term cursor (Tick word) at = by_same n cursor (act_of_tick_as n.volatile.role word n) (tick_same n n.volatile.role word at.0)
+event_keeps n term cursor (Frame m) at = message_keeps n term cursor m at
+event_keeps n term cursor (Call place request) at = by_same n cursor (act_of_call_as n.volatile.role place request n) (call_same n n.volatile.role place request at.0)
+
+-- what a leader wants behind it is nothing to who prepares
+leader_no_longer : (n : Node) → n.volatile.role ≡ Leader → (act_of_new_want (want_of n) n).node.volatile.role ≡ Preparing → ⊥
+leader_no_longer n e prepares = leader_prepares (sym (new_want_keeps n (λ it. it.volatile.role ≡ Leader) e) ∙ prepares)
+
 turn_keeps : (n : Node) (term cursor : ℕ) (event : Event) → IsAt term cursor n → Keeps n cursor (λ member. is_answer_of term cursor member event) (act_of event n)
-turn_keeps n term cursor (Tick word) at = by_same n cursor (act_of_tick_as n.volatile.role word n) (tick_same n n.volatile.role word at.0)
-turn_keeps n term cursor (Frame m) at = message_keeps n term cursor m at
-turn_keeps n term cursor (Call place request) at = by_same n cursor (act_of_call_as n.volatile.role place request n) (call_same n n.volatile.role place request at.0)
+turn_keeps n term cursor event at =
+    let now : Node = (act_of_event event n).node in
+    want_keeps now (Keeps n cursor (λ member. is_answer_of term cursor member event)) (event_keeps n term cursor event at)
+    (λ e prepares. absurd (leader_no_longer now e prepares))
 
 -- ---- enough answers move on
 
@@ -363,7 +375,12 @@ message_leaves n (messages.Peer sender receiver at body) e =
 message_leaves n (messages.Request receiver request) e = same_leaves n (stays n) (refl, refl)
 message_leaves n (messages.Answered sender client seq reply) e = same_leaves n (stays n) (refl, refl)
 
+event_leaves : (n : Node) (event : Event) → n.volatile.role ≡ Preparing → Leaves n (act_of_event event n)
+event_leaves n (Tick word) e = same_leaves n (act_of_tick_as n.volatile.role word n) (tick_same n n.volatile.role word e)
+event_leaves n (Frame m) e = message_leaves n m e
+event_leaves n (Call place request) e = same_leaves n (act_of_call_as n.volatile.role place request n) (call_same n n.volatile.role place request e)
+
 pub parts_are_left : PartsAreLeft
-parts_are_left n (Tick word) e = same_leaves n (act_of_tick_as n.volatile.role word n) (tick_same n n.volatile.role word e)
-parts_are_left n (Frame m) e = message_leaves n m e
-parts_are_left n (Call place request) e = same_leaves n (act_of_call_as n.volatile.role place request n) (call_same n n.volatile.role place request e)
+parts_are_left n event e =
+    let now : Node = (act_of_event event n).node in
+    want_keeps now (Leaves n) (event_leaves n event e) (λ leads prepares. absurd (leader_no_longer now leads prepares))

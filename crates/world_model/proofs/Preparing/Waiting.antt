@@ -1,7 +1,7 @@
 -- Whoever prepares waits, after each turn.
-use Rattle.std.proofs.Common.{◌≡◌, ℕ, ◌+◌, ◌≤◌, ◌<◌, ◌==◌, ◌&&◌, nat_le, nat_lt, min, true, false, Bool, List, [], ◌∷◌, length, drop, take, Option, None, Some, refl, sym, ap, subst, ◌∙◌, arith}
-use Rattle.std.proofs.lemmas.Bool.{cond_both, leb-true}
-use Rattle.craft_base.specs.Knowledge.{Beat, Matched, Refused}
+use Rattle.std.proofs.Common.{◌≡◌, ℕ, ◌+◌, ◌==◌, nat_lt, min, false, Bool, List, length, Option, None, Some, refl, sym, subst}
+use Rattle.std.proofs.lemmas.Bool.{cond_both}
+use Rattle.craft_base.specs.Knowledge.{Beat, Matched}
 use Rattle.craft_base.specs.Shape.{Shape}
 use Rattle.craft_base.specs.declared.command.Entry.{Entry}
 use Rattle.craft_base.specs.declared.command.Reply.TheVariants as replies
@@ -19,25 +19,26 @@ use Rattle.kv_apply.specs.Commands.{kept_of}
 use Rattle.kv_apply.specs.declared.outcome.Kept.{Kept}
 use Rattle.kv_apply.specs.declared.outcome.Kept.TheVariants as keeps
 use Rattle.leader_prep.specs.Pages.{Page, is_shown}
-use Rattle.leader_prep.specs.Verdicts.{is_covered}
-use Rattle.world_model.specs.Nodes.{Node, Volatile, fresh, node_hearing, node_with}
+use Rattle.leader_prep.specs.Verdicts.{Source, is_covered}
+use Rattle.world_model.specs.Nodes.{Node, Volatile, node_hearing, node_with}
 use Rattle.world_model.specs.Preparing.{EveryPreparingWaits, Waits, WaitsAs}
-use Rattle.world_model.specs.Rules.Acts.{Act, followed_by, keeping, recording, sending, stays}
-use Rattle.world_model.specs.Rules.Answer.{act_of_answer_as, answer_heard, node_seeing}
+use Rattle.world_model.specs.Rules.Acts.{Act, followed_by, keeping, recording, stays}
+use Rattle.world_model.specs.Rules.Answer.{act_of_answer_as, act_of_gathered, act_of_shown, act_of_source, answer_heard, node_seeing, node_shown, source_at}
 use Rattle.world_model.specs.Rules.Append.{act_of_append_as, act_of_entries, act_of_heard_append, act_of_match, act_of_refusal, act_of_suited, act_of_taking, difference, following, has_before, is_clash}
-use Rattle.world_model.specs.Rules.Applying.{act_of_applying, act_of_commit}
 use Rattle.world_model.specs.Rules.Ask.{act_of_ask_as}
-use Rattle.world_model.specs.Rules.Call.{act_of_asking, act_of_call_as, act_of_new_request, act_of_reply, act_of_request, applied_heads, is_busy, is_full}
+use Rattle.world_model.specs.Rules.Call.{act_of_asking, act_of_call_as, act_of_reply, act_of_request, applied_heads, is_busy, is_full}
 use Rattle.world_model.specs.Rules.Matched.{act_of_matched_as, act_of_next, act_of_progress, act_of_refused_as, commit_of_leader, log_heard}
-use Rattle.world_model.specs.Rules.Prepare.{act_of_asking_all, act_of_asking_on, act_of_deciding, act_of_first, act_of_later, act_of_leading, act_of_noop, act_of_preparing, act_of_winning, cursor_at, leading, noop, preparing}
+use Rattle.world_model.specs.Rules.Prepare.{act_of_asking_again, act_of_asking_on, act_of_deciding, act_of_first, act_of_later, act_of_leading, act_of_preparing, act_of_winning, cursor_at, leading, noop, preparing}
 use Rattle.world_model.specs.Rules.Terms.{act_of_higher_term, act_of_lower_term, act_of_term}
-use Rattle.world_model.specs.Rules.Tick.{act_of_asking_again, act_of_election, act_of_tick_as, act_of_waiting, is_due, waiting_node}
+use Rattle.world_model.specs.Rules.Tick.{act_of_beat, act_of_election, act_of_tick_as, act_of_waiting, is_due, waiting_node}
+use Rattle.world_model.specs.Rules.Want.{act_of_gathering, act_of_new_want, want_of}
 use Rattle.world_model.specs.Rules.Vote.{act_of_grant, act_of_vote_from, act_of_vote_refusal, act_of_vote_request, is_grantor}
 use Rattle.world_model.specs.Rules.VoteReply.{act_of_count, act_of_vote_reply_as, has_won, vote_heard}
-use Rattle.world_model.specs.Turn.{Event, Tick, Frame, Call, act_of, act_of_message, act_of_peer}
+use Rattle.world_model.specs.Turn.{Event, Tick, Frame, Call, act_of, act_of_event, act_of_message, act_of_peer}
 use Rattle.world_model.proofs.Members.{members_keep}
 use Rattle.world_model.proofs.Preparing.Left.{decided_waits}
 use Rattle.world_model.proofs.Ranges.Applying.{commit_keeps}
+use Rattle.world_model.proofs.Wanting.{again_keeps, gathering_keeps, new_want_keeps, want_keeps}
 
 -- ---- by the role
 
@@ -108,11 +109,20 @@ waiting_waits : (n : Node) (word : ℕ) → NodeWaits n → ActWaits n (act_of_w
 waiting_waits n word waits =
     cond_both (is_due n.volatile.quiet word n.durable.term) (act_of_election n) (stays n) (ActWaits n) (λ due. tt) (λ early. waits)
 
-tick_as_waits : (role : Role) (word : ℕ) (n : Node) → NodeWaits n → ActWaits n (act_of_tick_as role word n)
-tick_as_waits Follower word n waits = waiting_waits (waiting_node n) word waits
-tick_as_waits Candidate word n waits = waiting_waits (waiting_node n) word waits
-tick_as_waits Preparing word n waits = asking_again_waits (cursor_at n) (node_hearing Beat n) waits
-tick_as_waits Leader word n waits = waits
+-- who wants a value leads
+abbrev IsLeader : Node → Type 0
+IsLeader n = n.volatile.role ≡ Leader
+
+gathering_leads : (n : Node) → IsLeader n → IsLeader (act_of_gathering n).node
+gathering_leads n e = gathering_keeps n (λ act. IsLeader act.node) (again_keeps (want_of n) n IsLeader e) (new_want_keeps n IsLeader e)
+
+tick_as_waits : (role : Role) (word : ℕ) (n : Node) → n.volatile.role ≡ role → NodeWaits n → ActWaits n (act_of_tick_as role word n)
+tick_as_waits Follower word n e waits = waiting_waits (waiting_node n) word waits
+tick_as_waits Candidate word n e waits = waiting_waits (waiting_node n) word waits
+tick_as_waits Preparing word n e waits = asking_again_waits (cursor_at n) (node_hearing Beat n) waits
+tick_as_waits Leader word n e waits =
+    let now : Node = node_hearing Beat n in
+    leads n (act_of_beat now) (gathering_leads now e)
 
 grant_waits : (n : Node) (candidate : ℕ) (vote : Option ℕ) → NodeWaits n → ActWaits n (keeping (record n.volatile { quiet = 0 }) (act_of_vote_from vote candidate n))
 grant_waits n candidate None waits = waits
@@ -182,11 +192,20 @@ ask_as_waits Candidate n asker start waits = tt
 ask_as_waits Preparing n asker start waits = waits
 ask_as_waits Leader n asker start waits = waits
 
+source_leads : (index : ℕ) (source : Option Source) (n : Node) → IsLeader n → IsLeader (act_of_source index source n).node
+source_leads index None n e = e
+source_leads index (Some source) n e = e
+
+shown_leads : (want : Option ℕ) (n : Node) → IsLeader n → IsLeader (act_of_shown want n).node
+shown_leads None n e = e
+shown_leads (Some index) n e = source_leads index (source_at n index) n e
+
 answer_as_waits : (role : Role) (n : Node) (page : Page) → n.volatile.role ≡ role → NodeWaits n → ActWaits n (act_of_answer_as role n page)
 answer_as_waits Follower n page e waits = waits
 answer_as_waits Candidate n page e waits = waits
 answer_as_waits Preparing n page e waits = preparing_waits (node_seeing page (node_hearing (answer_heard n page.sender) n)) e
-answer_as_waits Leader n page e waits = waits
+answer_as_waits Leader n page e waits =
+    leads n (act_of_gathered page n) (shown_leads n.volatile.want (node_shown page (node_hearing (answer_heard n page.sender) n)) e)
 
 peer_waits : (n : Node) (sender : ℕ) (body : Peer) → NodeWaits n → ActWaits n (act_of_peer n sender body)
 peer_waits n sender (peers.Vote last_term last) waits = vote_request_waits n sender last_term last waits
@@ -223,10 +242,15 @@ call_as_waits Leader n place r e waits =
     let kept = kept_of r.client r.seq (applied_heads n) in
     leads n (act_of_request place r kept n) (request_leads n place r kept e)
 
+event_waits : (event : Event) (n : Node) → NodeWaits n → ActWaits n (act_of_event event n)
+event_waits (Tick word) n waits = tick_as_waits n.volatile.role word n refl waits
+event_waits (Frame m) n waits = message_waits m n waits
+event_waits (Call place request) n waits = call_as_waits n.volatile.role n place request refl waits
+
 pub turn_waits : (event : Event) (n : Node) → NodeWaits n → ActWaits n (act_of event n)
-turn_waits (Tick word) n waits = tick_as_waits n.volatile.role word n waits
-turn_waits (Frame m) n waits = message_waits m n waits
-turn_waits (Call place request) n waits = call_as_waits n.volatile.role n place request refl waits
+turn_waits event n waits =
+    let now : Node = (act_of_event event n).node in
+    want_keeps now (ActWaits n) (event_waits event n waits) (λ e. leads n (act_of_new_want (want_of now) now) (new_want_keeps now IsLeader e))
 
 pub every_preparing_waits : EveryPreparingWaits
 every_preparing_waits shape events run me m here =

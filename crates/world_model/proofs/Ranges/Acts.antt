@@ -35,7 +35,7 @@ pub record ActInRange (shape : Shape) (member : ℕ) (n : Node) (act : Act) : Ty
 module _ {shape : Shape} {member : ℕ} {n : Node} (a : NodeInRange shape member n) where
   -- what a crash loses has no range but in what is known and in what clients may be told
   pub in_volatile :
-      (v : Volatile) → ClientsInRange shape v.hint v.calls → KnowsInRange v.role (length n.durable.log) v.first v.heard →
+      (v : Volatile) → ClientsInRange shape v → KnowsInRange v.role (length n.durable.log) v.first v.heard →
       All (PageInRange shape.need) v.pages → NodeInRange shape member (record n { volatile = v })
   in_volatile v clients knows pages = record {
     of_shape = a.of_shape;
@@ -52,7 +52,7 @@ module _ {shape : Shape} {member : ℕ} {n : Node} (a : NodeInRange shape member
 
   -- what records leave, with that as what a crash loses
   pub enters_in_range :
-      (records : List Record) (v : Volatile) → CanApplyAll shape n.durable records → HaveSpellings shape.need records → ClientsInRange shape v.hint v.calls →
+      (records : List Record) (v : Volatile) → CanApplyAll shape n.durable records → HaveSpellings shape.need records → ClientsInRange shape v →
       KnowsInRange v.role (length (after n.durable records).log) v.first v.heard → All (PageInRange shape.need) v.pages →
       ActInRange shape member n (keeping v (recording_all records (stays n)))
   enters_in_range records v applies written clients knows pages = record {
@@ -78,7 +78,7 @@ module _ {shape : Shape} {member : ℕ} {n : Node} (a : NodeInRange shape member
 
 module _ {shape : Shape} {member : ℕ} {n : Node} where
   pub keeping_in_range :
-      (v : Volatile) (act : Act) → ClientsInRange shape v.hint v.calls → KnowsInRange v.role (length act.node.durable.log) v.first v.heard →
+      (v : Volatile) (act : Act) → ClientsInRange shape v → KnowsInRange v.role (length act.node.durable.log) v.first v.heard →
       All (PageInRange shape.need) v.pages → ActInRange shape member n act → ActInRange shape member n (keeping v act)
   keeping_in_range v act clients knows pages a = record {
     node = in_volatile a.node v clients knows pages;

@@ -1,5 +1,5 @@
 -- The commit index grows only up to the log's end, and what is told of the entries that it passes can be written.
-use Rattle.std.proofs.Common.{◌≡◌, ℕ, ◌+◌, ◌-◌, ◌<◌, ◌≤◌, ◌==◌, nat_lt, List, [], ◌∷◌, length, take, map, Option, None, Some, refl, sym, subst, ◌∙◌, arith, length-take-le}
+use Rattle.std.proofs.Common.{◌≡◌, ℕ, ◌+◌, ◌-◌, ◌<◌, ◌≤◌, ◌==◌, nat_lt, List, [], ◌∷◌, filter, length, take, map, Option, None, Some, refl, sym, subst, ◌∙◌, arith, length-take-le}
 use Rattle.std.specs.Option.{option_to_list}
 use Rattle.std.specs.List.{All}
 use Rattle.std.proofs.lemmas.Bool.{cond_both, ltb-true}
@@ -26,7 +26,7 @@ use Rattle.kv_apply.proofs.Within.{answer_within}
 use Rattle.world_model.specs.Nodes.{Node}
 use Rattle.world_model.specs.Ranges.{CallInRange, IsMember, NodeInRange, ReplyHasSpelling}
 use Rattle.world_model.specs.Rules.Acts.{Act, stays}
-use Rattle.world_model.specs.Rules.Applying.{act_of_applying, act_of_commit, call_at, newly_committed, replies_among, replies_at, replies_for, reply_of, reply_to, value_of, value_reply, waiting, whole_bytes}
+use Rattle.world_model.specs.Rules.Applying.{act_of_applying, act_of_commit, call_at, newly_committed, reading, reads_among, reads_at, reads_for, reads_with, replies_among, replies_at, replies_for, reply_of, reply_to, value_of, value_reply, version_awaited, waiting, whole_bytes}
 use Rattle.world_model.specs.declared.call.Called.{Called}
 use Rattle.world_model.specs.declared.call.ClientReply.{ClientReply}
 use Rattle.world_model.proofs.Ranges.Acts.{ActInRange, answering_in_range, enters_in_range, stays_in_range}
@@ -69,6 +69,43 @@ newly_within before now most within =
     let below : i < now - before = subst (λ k. i < k) (length-range_with_len (before + 1) (now - before)) lt in
     subst (λ index. (1 ≤ index) × (index ≤ most)) (sym (get_or-range_with_len (before + 1) (now - before) i 0 below)) (omega arith, omega (arith, below, within))
 
+-- ---- reads
+
+reading_in_range : (c : Called) (reads : List Called) → CallInRange c → All CallInRange reads → All CallInRange (reading c reads)
+reading_in_range c reads of_call all =
+    let before : List Called = filter (λ r. nat_lt r.client c.client) reads in
+    let behind : List Called = filter (λ r. nat_lt c.client r.client) reads in
+    All-append CallInRange before (c ∷ behind) (All-filter (λ r. nat_lt r.client c.client) CallInRange reads all)
+    (All-cons CallInRange c behind of_call (All-filter (λ r. nat_lt c.client r.client) CallInRange reads all))
+
+pub reads_with_in_range : (c : Called) → CallInRange c → (version : Option ℕ) (reads : List Called) → All CallInRange reads → All CallInRange (reads_with c version reads)
+reads_with_in_range c of_call None reads all = all
+reads_with_in_range c of_call (Some version) reads all = reading_in_range (record c { index = version }) reads of_call all
+
+abbrev IsFound : Option Called → Type 0
+IsFound None = Unit {0}
+IsFound (Some c) = CallInRange c
+
+found : (calls : List Called) → All CallInRange calls → (index : ℕ) (call : Option Called) → call_at index calls ≡ call → IsFound call
+found calls ranged index None e = tt
+found calls ranged index (Some c) e = found_of CallInRange (λ c. c.index == index) calls c ranged e
+
+reads_for_in_range :
+    (log : List Entry) (call : Option Called) → IsFound call → (entry : Option Entry) (earlier : List Head) (reads : List Called) → All CallInRange reads →
+    All CallInRange (reads_for log call entry earlier reads)
+reads_for_in_range log None of_call entry earlier reads all = all
+reads_for_in_range log (Some c) of_call None earlier reads all = all
+reads_for_in_range log (Some c) of_call (Some entry) earlier reads all =
+    reads_with_in_range c of_call (version_awaited log (answer entry.head earlier)) reads all
+
+reads_among_in_range :
+    (log : List Entry) (calls : List Called) → All CallInRange calls → (indexes : List ℕ) (reads : List Called) → All CallInRange reads →
+    All CallInRange (reads_among log calls indexes reads)
+reads_among_in_range log calls ranged [] reads all = all
+reads_among_in_range log calls ranged (index ∷ indexes) reads all =
+    reads_among_in_range log calls ranged indexes (reads_at log calls index reads)
+    (reads_for_in_range log (call_at index calls) (found calls ranged index (call_at index calls) refl) (entry_at log index) (heads_of (take (index - 1) log)) reads all)
+
 -- ---- replies
 
 module _ (shape : Shape) (is : IsShape shape) (member : ℕ) (is_member : IsMember shape member) (make : Reply → ClientReply)
@@ -81,10 +118,6 @@ module _ (shape : Shape) (is : IsShape shape) (member : ℕ) (is_member : IsMemb
 module _
     (shape : Shape) (is : IsShape shape) (member : ℕ) (is_member : IsMember shape member) (d : Durable) (a : DurableInRange shape d)
     (calls : List Called) (ranged : All CallInRange calls) where
-  abbrev IsFound : Option Called → Type 0
-  IsFound None = Unit {0}
-  IsFound (Some c) = CallInRange c
-
   for_entry :
       (call : Option Called) (entry : Option Entry) (earlier : List Head) → IsFound call → length earlier + 1 ≤ last_place →
       All (ReplyHasSpelling shape member) (replies_for d.log call entry earlier)
@@ -95,14 +128,10 @@ module _
       (reply_of d.log (answer entry.head earlier))
       (outcome_in_range shape d a (length earlier + 1) (answer entry.head earlier) most (answer_within entry.head earlier))
 
-  found : (index : ℕ) (call : Option Called) → call_at index calls ≡ call → IsFound call
-  found index None e = tt
-  found index (Some c) e = found_of CallInRange (λ c. c.index == index) calls c ranged e
-
   at_index : (index : ℕ) → 1 ≤ index → index ≤ length d.log → All (ReplyHasSpelling shape member) (replies_at d.log calls index)
   at_index index low high =
       let long : length (heads_of (take (index - 1) d.log)) ≡ index - 1 = heads_long d.log (index - 1) (omega (arith, high)) in
-      for_entry (call_at index calls) (entry_at d.log index) (heads_of (take (index - 1) d.log)) (found index (call_at index calls) refl)
+      for_entry (call_at index calls) (entry_at d.log index) (heads_of (take (index - 1) d.log)) (found calls ranged index (call_at index calls) refl)
       (omega (arith, long, low, high, a.short))
 
   among : (indexes : List ℕ) → All (λ index. (1 ≤ index) × (index ≤ length d.log)) indexes → All (ReplyHasSpelling shape member) (replies_among d.log calls indexes)
@@ -123,10 +152,15 @@ module _ {shape : Shape} (is : IsShape shape) {member : ℕ} {n : Node} (a : Nod
   applying_in_range : n.durable.commit < index → ActInRange shape member n (act_of_applying index n)
   applying_in_range above =
       answering_in_range (replies_among n.durable.log n.volatile.calls (newly_committed n.durable.commit index)) _
-      (told_in_range shape is member a.is_member n.durable a.durable n.volatile.calls a.clients.1 index within)
-      (enters_in_range a (Commit index ∷ []) (waiting index n.volatile) (record { behind = above; within = within }, tt)
-      (commit_fits shape.need index (omega (arith, above)) (omega (arith, within, a.durable.short)), tt)
-      (a.clients.0, All-filter (λ c. nat_lt index c.index) CallInRange n.volatile.calls a.clients.1) a.knows a.pages)
+      (told_in_range shape is member a.is_member n.durable a.durable n.volatile.calls a.clients.1.0 index within)
+      (enters_in_range a (Commit index ∷ []) (waiting index n) (record { behind = above; within = within }, tt)
+      (commit_fits shape.need index (omega (arith, above)) (omega (arith, within, a.durable.short)), tt) (
+        a.clients.0,
+        (
+          All-filter (λ c. nat_lt index c.index) CallInRange n.volatile.calls a.clients.1.0,
+          reads_among_in_range n.durable.log n.volatile.calls a.clients.1.0 (newly_committed n.durable.commit index) n.volatile.reads a.clients.1.1,
+        ),
+      ) a.knows a.pages)
 
   pub commit_in_range : ActInRange shape member n (act_of_commit index n)
   commit_in_range =

@@ -24,13 +24,13 @@ use Rattle.kv_apply.specs.declared.outcome.Kept.TheVariants as keeps
 use Rattle.kv_apply.proofs.Within.{same_within}
 use Rattle.world_model.specs.Nodes.{Node}
 use Rattle.world_model.specs.Ranges.{CallInRange, HasSpelling, IsMember, ItemInRange, NodeInRange, ReplyHasSpelling}
-use Rattle.world_model.specs.Rules.Acts.{others, stays}
-use Rattle.world_model.specs.Rules.Applying.{reply_of}
+use Rattle.world_model.specs.Rules.Acts.{keeping, others, stays}
+use Rattle.world_model.specs.Rules.Applying.{reply_of, version_awaited}
 use Rattle.world_model.specs.Rules.Call as rule
 use Rattle.world_model.specs.Rules.Say.{append_to}
 use Rattle.world_model.specs.declared.call.Called.{Called}
-use Rattle.world_model.proofs.Ranges.Acts.{ActInRange, answering_in_range, enters_in_range, followed_in_range, others_are, sending_in_range, stays_in_range}
-use Rattle.world_model.proofs.Ranges.Applying.{heads_long, one_spelled, outcome_in_range}
+use Rattle.world_model.proofs.Ranges.Acts.{ActInRange, answering_in_range, enters_in_range, followed_in_range, keeping_in_range, others_are, sending_in_range, stays_in_range}
+use Rattle.world_model.proofs.Ranges.Applying.{heads_long, one_spelled, outcome_in_range, reads_with_in_range}
 use Rattle.world_model.proofs.Ranges.Knowing.{knows_as, leader_begun}
 use Rattle.world_model.proofs.Ranges.Records.{add_fits}
 use Rattle.world_model.proofs.Ranges.Replies.{ReplyInRange, reply_spelled}
@@ -78,8 +78,10 @@ module _ {shape : Shape} (is : IsShape shape) {member : ℕ} {n : Node} (a : Nod
         (All-weaker (ItemInRange (length n.durable.log)) (ItemInRange (length n.durable.log + 1)) (item_longer (length n.durable.log)) n.volatile.heard knows.2) in
         let c : Called = record { index = length (n.durable.log ++ entry ∷ []); place = place; client = r.client; seq = r.seq } in
         enters_in_range a (Add entry ∷ []) (rule.calling place r (rule.act_of_entry r n).node) (next, tt)
-        (add_fits shape.need entry (entry_for_fits shape.need n.durable.term begun a.durable.stored.term_most r fits), tt)
-        (a.clients.0, All-append CallInRange n.volatile.calls (c ∷ []) a.clients.1 (All-cons CallInRange c [] (client_in_range r fits, seq_in_range r fits) (All-nil CallInRange)))
+        (add_fits shape.need entry (entry_for_fits shape.need n.durable.term begun a.durable.stored.term_most r fits), tt) (
+          a.clients.0,
+          (All-append CallInRange n.volatile.calls (c ∷ []) a.clients.1.0 (All-cons CallInRange c [] (client_in_range r fits, seq_in_range r fits) (All-nil CallInRange)), a.clients.1.1),
+        )
         (rw leads (knows.0, omega (arith, knows.1, longer), heard, omega (arith, longer))) a.pages
 
     telling_in_range : {now : Node} → NodeInRange shape member now → now.volatile.role ≡ Leader → ActInRange shape member now (rule.act_of_telling now)
@@ -112,11 +114,18 @@ module _ {shape : Shape} (is : IsShape shape) {member : ℕ} {n : Node} (a : Nod
     request_in_range : (kept : Kept) → kept_of r.client r.seq (rule.applied_heads n) ≡ kept → ActInRange shape member n (rule.act_of_request place r kept n)
     request_in_range keeps.New e = new_in_range
     request_in_range (keeps.Same outcome) e =
-        answering_in_range (map (rule.reply_for place r) (option_to_list (reply_of n.durable.log outcome))) (stays n)
+        answering_in_range (map (rule.reply_for place r) (option_to_list (reply_of n.durable.log outcome))) (keeping (rule.reading_anew place r outcome n) (stays n))
         (one_spelled shape is member a.is_member (rule.reply_for place r) spelled (reply_of n.durable.log outcome)
         (outcome_in_range shape n.durable a.durable (length (rule.applied_heads n)) outcome
         (omega (arith, heads_long n.durable.log n.durable.commit a.durable.commit, a.durable.commit, a.durable.short))
-        (same_within r.client r.seq (rule.applied_heads n) outcome e))) (stays_in_range a)
+        (same_within r.client r.seq (rule.applied_heads n) outcome e)))
+        (keeping_in_range (rule.reading_anew place r outcome n) (stays n) (
+          a.clients.0,
+          (
+            a.clients.1.0,
+            reads_with_in_range (rule.call_from place r) (client_in_range r fits, seq_in_range r fits) (version_awaited n.durable.log outcome) n.volatile.reads a.clients.1.1,
+          ),
+        ) a.knows a.pages (stays_in_range a))
     request_in_range keeps.Old e = replies_in_range replies.Old tt
 
   call_as_in_range : (role : Role) → n.volatile.role ≡ role → ActInRange shape member n (rule.act_of_call_as role place r n)

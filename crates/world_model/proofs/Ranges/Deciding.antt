@@ -14,11 +14,10 @@ use Rattle.craft_base.specs.declared.command.Form.TheVariants as forms
 use Rattle.entry_frames.specs.Durable.{Durable, IsUncommitted, applied}
 use Rattle.entry_frames.specs.Entries.{entry_fields, is_whole}
 use Rattle.entry_frames.specs.Formats.{Fits}
-use Rattle.entry_frames.specs.Limits.{last_place}
 use Rattle.entry_frames.specs.Records.{Whole}
 use Rattle.entry_frames.specs.Stored.{DurableInRange}
 use Rattle.entry_frames.proofs.Stored.{complete_length, records_kept}
-use Rattle.leader_prep.specs.Decisions.{Decision, OpenPart, cursor_of, decided, decision_at, first_index, open_parts, parts_from}
+use Rattle.leader_prep.specs.Decisions.{OpenPart, cursor_of, decided, decision_at, first_index, parts_from}
 use Rattle.leader_prep.specs.Pages.{Page, latest_slot, slot_in, slot_of}
 use Rattle.leader_prep.specs.Solutions.{value_of}
 use Rattle.leader_prep.specs.Verdicts as verdicts
@@ -130,13 +129,16 @@ module _ (shape : Shape) (some : 1 ≤ shape.need) (me : ℕ) (own : Entry) (own
   by_forms None without long rest = rest
   by_forms (Some value) without long rest = long
 
+  -- where enough members were heard
+  pub forms_long : IsVerdictLong own (verdict_of_forms shape own (usable_form me own slot))
+  forms_long =
+      by_forms (first_whole (usable_form me own slot) (members shape)) (verdict_of_parts shape own (parts_of (usable_form me own slot) (members shape)))
+      (of_members (members shape)) (by_parts (parts_of (usable_form me own slot) (members shape)))
+
   pub verdict_long : (shown : ℕ → Bool) → IsVerdictLong own (verdict shape me own shown slot)
   verdict_long shown =
       cond_both (is_covered shape me shown) (verdict_of_forms shape own (usable_form me own slot)) verdicts.Wait (IsVerdictLong own)
-      (λ covered.
-      by_forms (first_whole (usable_form me own slot) (members shape)) (verdict_of_parts shape own (parts_of (usable_form me own slot) (members shape)))
-      (of_members (members shape)) (by_parts (parts_of (usable_form me own slot) (members shape))))
-      (λ few. tt)
+      (λ covered. forms_long) (λ few. tt)
 
 -- ---- the records
 

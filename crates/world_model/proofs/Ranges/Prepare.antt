@@ -10,12 +10,12 @@ use Rattle.entry_frames.specs.Entries.{entry_fields}
 use Rattle.entry_frames.specs.Formats.{Fits, U64}
 use Rattle.entry_frames.specs.Limits.{greatest, last_place}
 use Rattle.entry_frames.specs.MessageFields.{body_fields}
-use Rattle.entry_frames.specs.Records.{Add, Cut, Record}
+use Rattle.entry_frames.specs.Records.{Add, Cut}
 use Rattle.entry_frames.specs.declared.kind.PeerKind.TheVariants as peer_kinds
 use Rattle.entry_frames.specs.declared.peer.Peer.TheVariants as peers
 use Rattle.entry_frames.specs.declared.role.Role.{Role}
 use Rattle.entry_frames.specs.declared.role.Role.TheVariants.{Preparing}
-use Rattle.leader_prep.specs.Decisions.{Decision, OpenPart, Rebuilt, verdict_at}
+use Rattle.leader_prep.specs.Decisions.{OpenPart, Rebuilt, verdict_at}
 use Rattle.leader_prep.specs.Pages.{covers, is_shown, latest_slot}
 use Rattle.std.specs.Option.{option_to_list}
 use Rattle.entry_frames.proofs.Stored.{term_most}

@@ -24,9 +24,9 @@ use Rattle.world_model.proofs.Ranges.Records.{term_fits}
 module _ {shape : Shape} (is : IsShape shape) {from to at : ℕ} (ends : Ends shape from to at) {n : Node} (a : NodeInRange shape to n) where
   higher_term_in_range : nat_lt n.durable.term at ≡ true → ActInRange shape to n (act_of_higher_term at n)
   higher_term_in_range higher =
-      enters_in_range a (Term at None ∷ []) (record n.volatile { role = Follower; hint = None; heard = []; first = 0; pages = []; calls = [] })
+      enters_in_range a (Term at None ∷ []) (record n.volatile { role = Follower; hint = None; heard = []; first = 0; pages = []; calls = []; reads = []; want = None })
       (inl (record { least = ends.term.0; most = ends.term.1; later = ltb-true n.durable.term at higher }), tt)
-      (term_fits shape is at None ends.term.1 tt, tt) (tt, All-nil CallInRange) (All-nil IsOfNoLog) (All-nil (PageInRange shape.need))
+      (term_fits shape is at None ends.term.1 tt, tt) (tt, (All-nil CallInRange, All-nil CallInRange)) (All-nil IsOfNoLog) (All-nil (PageInRange shape.need))
 
   pub term_in_range : ActInRange shape to n (act_of_term at n)
   term_in_range =

@@ -11,16 +11,18 @@ use Rattle.craft_base.specs.Knowledge.{Beat}
 use Rattle.world_model.specs.Nodes.{Node, node_hearing}
 use Rattle.world_model.specs.Ranges.{IsMember, IsOfNoLog, NodeInRange}
 use Rattle.world_model.specs.Rules.Acts.{stays}
-use Rattle.world_model.specs.Rules.Prepare.{cursor_at}
+use Rattle.world_model.specs.Rules.Prepare.{act_of_asking_again, cursor_at}
 use Rattle.world_model.specs.Rules.Say.{act_of_saying}
-use Rattle.world_model.specs.Rules.Tick.{act_of_candidacy, act_of_election, act_of_asking_again, act_of_tick, act_of_tick_as, act_of_waiting, is_due, vote_requests, waiting_node}
+use Rattle.world_model.specs.Rules.Want.{act_of_gathering}
+use Rattle.world_model.specs.Rules.Tick.{act_of_beat, act_of_candidacy, act_of_election, act_of_tick, act_of_tick_as, act_of_waiting, is_due, vote_requests, waiting_node}
 use Rattle.craft_base.specs.Shape.{IsShape}
-use Rattle.world_model.proofs.Ranges.Acts.{ActInRange, before_in_range, enters_in_range, in_volatile, messages_to_others_fit, sending_in_range, stays_in_range}
+use Rattle.world_model.proofs.Ranges.Acts.{ActInRange, before_in_range, enters_in_range, followed_in_range, in_volatile, messages_to_others_fit, sending_in_range, stays_in_range}
 use Rattle.world_model.proofs.Ranges.Bodies.{request_fits}
 use Rattle.world_model.proofs.Ranges.Knowing.{hears}
 use Rattle.world_model.proofs.Ranges.Prepare.{asking_all_in_range}
 use Rattle.world_model.proofs.Ranges.Records.{term_fits}
 use Rattle.world_model.proofs.Ranges.Say.{saying_in_range}
+use Rattle.world_model.proofs.Ranges.Want.{gathering_in_range}
 
 module _ {shape : Shape} (is : IsShape shape) {member : ℕ} {n : Node} (a : NodeInRange shape member n) where
   candidacy_in_range : (word : ℕ) → is_due n.volatile.quiet word n.durable.term ≡ true → ActInRange shape member n (act_of_candidacy n)
@@ -62,7 +64,8 @@ module _ {shape : Shape} (is : IsShape shape) {member : ℕ} {n : Node} (word : 
   tick_as_in_range Preparing e =
       before_in_range (node_hearing Beat n).volatile (act_of_asking_again (cursor_at n) (node_hearing Beat n)) (asking_in_range (cursor_at n) refl)
   tick_as_in_range Leader e =
-      before_in_range (node_hearing Beat n).volatile (act_of_saying (node_hearing Beat n)) (saying_in_range is beat_in_range e)
+      before_in_range (node_hearing Beat n).volatile (act_of_beat (node_hearing Beat n))
+      (followed_in_range (act_of_saying (node_hearing Beat n)) act_of_gathering refl (saying_in_range is beat_in_range e) (gathering_in_range is beat_in_range e))
 
   pub tick_in_range : ActInRange shape member n (act_of_tick word n)
   tick_in_range = tick_as_in_range n.volatile.role refl

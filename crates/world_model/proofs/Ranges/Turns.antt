@@ -15,9 +15,10 @@ use Rattle.world_model.specs.Nodes.{Node}
 use Rattle.world_model.specs.Ranges.{NodeInRange, EventInRange, HasSpelling}
 use Rattle.world_model.specs.Rules.Acts.{followed_by}
 use Rattle.world_model.specs.Rules.Terms.{act_of_lower_term, act_of_term}
-use Rattle.world_model.specs.Turn.{Event, Tick, Frame, Call, act_of, act_of_message, act_of_peer}
+use Rattle.world_model.specs.Rules.Want.{act_of_want}
+use Rattle.world_model.specs.Turn.{Event, Tick, Frame, Call, act_of, act_of_event, act_of_message, act_of_peer}
 use Rattle.world_model.proofs.Frames.{Ends, body_spelled, ends_of, lies_within}
-use Rattle.world_model.proofs.Recorded.{term_recorded}
+use Rattle.world_model.proofs.Recorded.{event_recorded, term_recorded}
 use Rattle.world_model.proofs.Turns.{caught_up}
 use Rattle.world_model.proofs.Ranges.Acts.{ActInRange, followed_in_range, stays_in_range}
 use Rattle.world_model.proofs.Ranges.Answer.{answer_as_in_range, slots_of}
@@ -29,6 +30,7 @@ use Rattle.world_model.proofs.Ranges.Terms.{lower_term_in_range, term_in_range}
 use Rattle.world_model.proofs.Ranges.Tick.{tick_in_range}
 use Rattle.world_model.proofs.Ranges.Vote.{vote_request_in_range}
 use Rattle.world_model.proofs.Ranges.VoteReply.{vote_reply_in_range}
+use Rattle.world_model.proofs.Ranges.Want.{want_in_range}
 
 module _ {shape : Shape} (is : IsShape shape) where
   -- a message of the node's own term, by what it says
@@ -66,11 +68,19 @@ module _ {shape : Shape} (is : IsShape shape) where
   message_in_range (messages.Request receiver request) spelled a = stays_in_range a
   message_in_range (messages.Answered sender client seq reply) spelled a = stays_in_range a
 
+-- what a node is told, without what it wants behind it
+pub event_in_range :
+    {shape : Shape} → IsShape shape → {member : ℕ} {n : Node} (event : Event) → EventInRange shape member event → NodeInRange shape member n →
+    ActInRange shape member n (act_of_event event n)
+event_in_range is (Tick word) told a = tick_in_range is word a
+event_in_range {shape = shape} is {n = n} (Frame m) told a =
+    subst (λ member. ActInRange shape member n (act_of_message m n)) told.1
+    (message_in_range is m told.0 (subst (λ member. NodeInRange shape member n) (sym told.1) a))
+event_in_range is (Call place request) told a = call_in_range is a place request told
+
 pub act_in_range :
     {shape : Shape} → IsShape shape → {member : ℕ} {n : Node} (event : Event) → EventInRange shape member event → NodeInRange shape member n →
     ActInRange shape member n (act_of event n)
-act_in_range is (Tick word) told a = tick_in_range is word a
-act_in_range {shape = shape} is {n = n} (Frame m) told a =
-    subst (λ member. ActInRange shape member n (act_of_message m n)) told.1
-    (message_in_range is m told.0 (subst (λ member. NodeInRange shape member n) (sym told.1) a))
-act_in_range is (Call place request) told a = call_in_range is a place request told
+act_in_range is {n = n} event told a =
+    let first = event_in_range is event told a in
+    followed_in_range (act_of_event event n) act_of_want (event_recorded event n) first (want_in_range is first.node)

@@ -96,7 +96,7 @@ module _ {shape : Shape} {w : World} (r : InRange shape w) where
 
   -- a member that is down would start with nothing heard
   down_next : (me : ℕ) (d : Durable) → IsMember shape me → DurableInRange shape d → NodeInRange shape me (node_of w.shape me (down_with d))
-  down_next me d is_member keeps = record { of_shape = r.of_shape; me = refl; is_member = is_member; durable = keeps; clients = (tt, All-nil CallInRange); knows = All-nil IsOfNoLog; pages = All-nil (PageInRange shape.need) }
+  down_next me d is_member keeps = record { of_shape = r.of_shape; me = refl; is_member = is_member; durable = keeps; clients = (tt, (All-nil CallInRange, All-nil CallInRange)); knows = All-nil IsOfNoLog; pages = All-nil (PageInRange shape.need) }
 
   down_as_in_range :
       (me : ℕ) (d : Durable) (running : Option Volatile) → slice_get w.members me ≡ Some (record { durable = d; running = running }) →
@@ -170,7 +170,7 @@ newborn_in_range shape is me is_member = record {
   me = refl;
   is_member = is_member;
   durable = newborn_durable shape is;
-  clients = (tt, All-nil CallInRange);
+  clients = (tt, (All-nil CallInRange, All-nil CallInRange));
   knows = All-nil IsOfNoLog;
   pages = All-nil (PageInRange shape.need);
 }

@@ -1,5 +1,5 @@
 -- Append: a member makes its log the leader's, as far as the message tells it.
-use Rattle.std.specs.Prelude.{ℕ, suc, ◌+◌, ◌*◌, min, List, [], ◌∷◌, ◌++◌, length, take, drop, map, Bool, true, false, ◌&&◌, ◌==◌, if◌then◌else◌, nat_le, Option, None, Some}
+use Rattle.std.specs.Prelude.{ℕ, suc, ◌+◌, ◌*◌, min, List, [], ◌∷◌, ◌++◌, length, take, drop, map, Bool, false, ◌&&◌, ◌==◌, if◌then◌else◌, nat_le, Option, None, Some}
 use Rattle.std.specs.Option.{option_to_list}
 use Rattle.craft_base.specs.declared.command.Entry.{Entry}
 use Rattle.craft_base.specs.declared.command.Form.{Form}

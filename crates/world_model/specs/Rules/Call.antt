@@ -16,10 +16,12 @@ use Rattle.entry_frames.specs.declared.role.Role.TheVariants.{Follower, Candidat
 use Rattle.kv_apply.specs.Commands.{heads_of, kept_of}
 use Rattle.kv_apply.specs.declared.outcome.Kept.{Kept}
 use Rattle.kv_apply.specs.declared.outcome.Kept.TheVariants as keeps
+use Rattle.kv_apply.specs.declared.outcome.Outcome.{Outcome}
 use Rattle.world_model.specs.Nodes.{Node, Volatile}
 use Rattle.world_model.specs.Rules.Acts.{Act, stays, recording, keeping, answering, sending, followed_by, others}
-use Rattle.world_model.specs.Rules.Applying.{reply_of}
+use Rattle.world_model.specs.Rules.Applying.{reads_with, reply_of, version_awaited}
 use Rattle.world_model.specs.Rules.Say.{append_to}
+use Rattle.world_model.specs.declared.call.Called.{Called}
 use Rattle.world_model.specs.declared.call.ClientReply.{ClientReply}
 
 -- ---- limits
@@ -49,6 +51,22 @@ reply_for place r reply = record { place = place; client = r.client; seq = r.seq
 -- the client is told that at once
 abbrev pub act_of_reply : ℕ → Request → Reply → Node → Act
 act_of_reply place r reply n = answering (reply_for place r reply ∷ []) (stays n)
+
+-- ---- a request that was answered before
+
+-- the request, at the place from which it comes now
+abbrev pub call_from : ℕ → Request → Called
+call_from place r = record { index = 0; place = place; client = r.client; seq = r.seq }
+
+-- it waits again, where the value that it found is still to be had from others
+abbrev pub reading_anew : ℕ → Request → Outcome → Node → Volatile
+reading_anew place r outcome n =
+    record n.volatile { reads = reads_with (call_from place r) (version_awaited n.durable.log outcome) n.volatile.reads }
+
+-- what it came to is told as when it was applied
+abbrev pub act_of_kept : ℕ → Request → Outcome → Node → Act
+act_of_kept place r outcome n =
+    answering (map (reply_for place r) (option_to_list (reply_of n.durable.log outcome))) (keeping (reading_anew place r outcome n) (stays n))
 
 -- ---- a request that is added
 
@@ -97,8 +115,7 @@ act_of_new_request place r n =
 -- by what is kept for its number
 abbrev pub act_of_request : ℕ → Request → Kept → Node → Act
 act_of_request place r keeps.New n = act_of_new_request place r n
-act_of_request place r (keeps.Same outcome) n =
-    answering (map (reply_for place r) (option_to_list (reply_of n.durable.log outcome))) (stays n)
+act_of_request place r (keeps.Same outcome) n = act_of_kept place r outcome n
 act_of_request place r keeps.Old n = act_of_reply place r replies.Old n
 
 -- the commands that are applied, the latest first

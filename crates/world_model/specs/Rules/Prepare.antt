@@ -1,6 +1,6 @@
 -- Prepare: who has won its term makes whole what it holds as parts above its commit index, or removes it, and then leads. It adds an
 -- empty entry of the term, since by counting it commits entries of its own term alone, and all before it with them.
-use Rattle.std.specs.Prelude.{ℕ, ◌+◌, List, [], ◌++◌, map, not, Bool, ◌==◌, if◌then◌else◌, nat_lt, length, Option, None, Some}
+use Rattle.std.specs.Prelude.{ℕ, ◌+◌, List, [], ◌++◌, map, not, ◌==◌, if◌then◌else◌, nat_lt, length, Option, None, Some}
 use Rattle.std.specs.List.{filter}
 use Rattle.std.specs.Option.{option_to_list}
 use Rattle.craft_base.specs.declared.command.Entry.{Entry}
@@ -8,7 +8,6 @@ use Rattle.craft_base.specs.declared.command.Form.TheVariants as forms
 use Rattle.craft_base.specs.declared.command.Op.TheVariants as ops
 use Rattle.entry_frames.specs.Limits.{last_place}
 use Rattle.entry_frames.specs.Records.{Record, Add, Cut, Whole}
-use Rattle.entry_frames.specs.declared.message.Message.{Message}
 use Rattle.entry_frames.specs.declared.peer.Peer.TheVariants as peers
 use Rattle.entry_frames.specs.declared.role.Role.TheVariants.{Preparing, Leader}
 use Rattle.leader_prep.specs.Decisions.{Decision, Rebuilt, cursor_of, decision}
@@ -49,7 +48,7 @@ act_of_noop n = if nat_lt (length n.durable.log) last_place then recording (Add 
 
 -- the leader of its term: it sends to a member of whose log it knows nothing from behind what it had
 abbrev pub leading : Node → Volatile
-leading n = record n.volatile { role = Leader; hint = Some n.me; first = length n.durable.log + 1; pages = [] }
+leading n = record n.volatile { role = Leader; hint = Some n.me; first = length n.durable.log + 1; pages = []; want = None }
 
 abbrev pub act_of_beginning : Node → Act
 act_of_beginning n = keeping (leading n) (act_of_noop n)
@@ -62,6 +61,11 @@ act_of_leading n = sending (appends_to_others (act_of_beginning n).node) (act_of
 -- the others are asked what they hold from the cursor on
 abbrev pub act_of_asking_all : ℕ → Node → Act
 act_of_asking_all cursor n = sending (messages_to_others n (peers.Ask cursor)) (stays n)
+
+-- the others are asked for an index again, if there is one
+abbrev pub act_of_asking_again : Option ℕ → Node → Act
+act_of_asking_again None n = stays n
+act_of_asking_again (Some index) n = act_of_asking_all index n
 
 -- the other members that don't cover the cursor, in order
 abbrev pub uncovering : Node → ℕ → List ℕ

@@ -12,7 +12,7 @@ use Rattle.world_model.specs.Rules.Acts.{Act, stays, recording, keeping, sending
 -- answered any more who asked in the term before. Its quiet time goes on.
 abbrev pub act_of_higher_term : ℕ → Node → Act
 act_of_higher_term term n =
-    keeping (record n.volatile { role = Follower; hint = None; heard = []; first = 0; pages = []; calls = [] }) (recording (Term term None) (stays n))
+    keeping (record n.volatile { role = Follower; hint = None; heard = []; first = 0; pages = []; calls = []; reads = []; want = None }) (recording (Term term None) (stays n))
 
 -- the term of a message that isn't of a lower term
 abbrev pub act_of_term : ℕ → Node → Act

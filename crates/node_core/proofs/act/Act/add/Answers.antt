@@ -6,6 +6,7 @@ use Rattle.entry_frames.specs.Records.{Record, Add}
 use Rattle.full_append.proofs.Appends.{told}
 use Rattle.full_append.proofs.Lists.{drop_at_place}
 use Rattle.node_core.specs.Acting.{MayRecord, Recorded, is_preparing}
+use Rattle.node_core.proofs.Gathering.{still_idle}
 use Rattle.node_core.proofs.Recorded.{both_recorded, may_rest, none_recorded, there_is}
 use Rattle.node_core.proofs.act.Act.add.Goals as goal
 
@@ -14,6 +15,9 @@ loop-number-init c = ([], none_recorded c.args.self, c.requires.may, refl)
 
 pub add_one-requires-clause-shape : goal.add_one-requires-clause-shape
 add_one-requires-clause-shape c = c.requires.shape ∙ sym c.loop-number.invariant.1.shape
+
+pub add_one-requires-clause-idle : goal.add_one-requires-clause-idle
+add_one-requires-clause-idle c = still_idle c.loop-number.invariant.0 c.args.self c.loop-number.act c.loop-number.invariant.1 c.requires.idle
 
 pub add_one-requires-clause-free : goal.add_one-requires-clause-free
 add_one-requires-clause-free c = ap is_preparing c.loop-number.invariant.1.role ∙ c.requires.free

@@ -1,7 +1,6 @@
 use Rattle.std.proofs.Common.{◌≡◌, ◌∙◌, None, Some, ap, sym, subst}
 use Rattle.std.proofs.lemmas.Result.{IfOk-weaker}
-use Rattle.world_model.specs.Rules.Prepare.{cursor_at}
-use Rattle.world_model.specs.Rules.Tick.{act_of_asking_again}
+use Rattle.world_model.specs.Rules.Prepare.{act_of_asking_again, cursor_at}
 use Rattle.node_core.specs.Acting.{IsActed}
 use Rattle.node_core.proofs.Acting.{stays_acted}
 use Rattle.node_core.proofs.act.Act.ask_again.Goals as goal

@@ -4,6 +4,7 @@ use Rattle.entry_frames.specs.MessageParts.{body_of, entries_of}
 use Rattle.entry_frames.specs.Records.{Add, Cut}
 use Rattle.node_core.specs.Acting.{is_preparing}
 use Rattle.node_core.specs.Appending.{value_record}
+use Rattle.node_core.proofs.Gathering.{still_idle}
 use Rattle.node_core.proofs.Recorded.{both_recorded, may_front, may_rest}
 use Rattle.node_core.proofs.act.Act.change_log.Goals as goal
 
@@ -12,6 +13,15 @@ complete-requires-clause-may c =
     let frame = c.args.append.now.frame in
     may_front c.args.self.member (map (value_record frame) c.args.wholes.now)
     (map Cut (option_to_list c.args.cut) ++ map Add (drop c.args.first_new (entries_of (body_of frame)))) c.requires.may
+
+pub cut-requires-clause-idle : goal.cut-requires-clause-idle
+cut-requires-clause-idle c =
+    still_idle (map (value_record c.args.append.now.frame) c.args.wholes.now) c.args.self c.in_ok-act.act c.in_ok-act.ensures c.requires.idle
+
+pub add-requires-clause-idle : goal.add-requires-clause-idle
+add-requires-clause-idle c =
+    still_idle (map Cut (option_to_list c.args.cut)) c.in_ok-act.act c.in_ok-act-2.act c.in_ok-act-2.ensures
+    (still_idle (map (value_record c.args.append.now.frame) c.args.wholes.now) c.args.self c.in_ok-act.act c.in_ok-act.ensures c.requires.idle)
 
 pub cut-requires-clause-free : goal.cut-requires-clause-free
 cut-requires-clause-free c = ap is_preparing c.in_ok-act.ensures.role ∙ c.requires.free

@@ -6,11 +6,15 @@ use Rattle.entry_frames.specs.Records.{Record}
 use Rattle.full_append.proofs.Lists.{drop_at_place}
 use Rattle.node_core.specs.Acting.{MayRecord, Recorded, is_preparing}
 use Rattle.node_core.specs.Appending.{value_record}
+use Rattle.node_core.proofs.Gathering.{still_idle}
 use Rattle.node_core.proofs.Recorded.{both_recorded, may_rest, none_recorded}
 use Rattle.node_core.proofs.act.Act.complete.Goals as goal
 
 pub loop-index-init : goal.loop-index-init
 loop-index-init c = ([], none_recorded c.args.self, c.requires.may, refl)
+
+pub complete_one-requires-clause-idle : goal.complete_one-requires-clause-idle
+complete_one-requires-clause-idle c = still_idle c.loop-index.invariant.0 c.args.self c.loop-index.act c.loop-index.invariant.1 c.requires.idle
 
 pub complete_one-requires-clause-free : goal.complete_one-requires-clause-free
 complete_one-requires-clause-free c = ap is_preparing c.loop-index.invariant.1.role ∙ c.requires.free

@@ -23,4 +23,5 @@ returns c =
       kept = c.in_ok-act-in-Some.ensures.kept ∙ ap (applied self.member.store.kept) same;
       shape = c.in_ok-act-in-Some.ensures.shape;
       role = c.in_ok-act-in-Some.ensures.role;
+      gather = c.in_ok-act-in-Some.ensures.gather;
     }

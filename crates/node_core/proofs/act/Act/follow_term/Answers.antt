@@ -8,5 +8,5 @@ use Rattle.node_core.proofs.act.Act.follow_term.Goals as goal
 pub returns : goal.returns
 returns c = λ n is.
     let between = c.in_ok-act.act in
-    become_after (recording (Term c.args.term None) (stays n)) (λ m. record m { volatile = record m.volatile { role = Follower; hint = None; heard = []; first = 0; pages = []; calls = [] } })
+    become_after (recording (Term c.args.term None) (stays n)) (λ m. record m { volatile = record m.volatile { role = Follower; hint = None; heard = []; first = 0; pages = []; calls = []; reads = []; want = None } })
     c.args.self between (record between { member = c.enter_as_follower.new.self }) (c.in_ok-act.ensures.acts n is) refl c.in_ok-enter_as_follower.ensures

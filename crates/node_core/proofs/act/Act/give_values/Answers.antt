@@ -6,11 +6,15 @@ use Rattle.entry_frames.specs.Records.{Record}
 use Rattle.full_append.proofs.Lists.{drop_at_place}
 use Rattle.node_core.specs.Acting.{MayRecord, Recorded, is_preparing}
 use Rattle.node_core.specs.Preparing.{value_given}
+use Rattle.node_core.proofs.Gathering.{still_idle}
 use Rattle.node_core.proofs.Recorded.{both_recorded, may_rest, none_recorded}
 use Rattle.node_core.proofs.act.Act.give_values.Goals as goal
 
 pub loop-whole-init : goal.loop-whole-init
 loop-whole-init c = ([], none_recorded c.args.self, c.requires.may, refl)
+
+pub give_value-requires-clause-idle : goal.give_value-requires-clause-idle
+give_value-requires-clause-idle c = still_idle c.loop-whole.invariant.0 c.args.self c.loop-whole.act c.loop-whole.invariant.1 c.requires.idle
 
 pub give_value-requires-clause-free : goal.give_value-requires-clause-free
 give_value-requires-clause-free c = ap is_preparing c.loop-whole.invariant.1.role ∙ c.requires.free

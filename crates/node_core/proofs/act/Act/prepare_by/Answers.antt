@@ -12,9 +12,10 @@ use Rattle.world_model.specs.Ranges.{HasSpelling, PageInRange}
 use Rattle.world_model.specs.Rules.Acts.{recording_all, stays}
 use Rattle.world_model.specs.Rules.Answer.{node_seeing}
 use Rattle.world_model.specs.Rules.Prepare.{cursor_at, decided_records, decision_at}
-use Rattle.node_core.specs.Acting.{IsActed, Recorded, is_preparing}
+use Rattle.node_core.specs.Acting.{IsActed, Recorded, is_gathering, is_preparing}
 use Rattle.node_core.specs.Preparing.{value_given, won}
 use Rattle.node_core.proofs.Preparing.{decided_ranged, given_term, may_decide, page_ranged, preparing_acted, records_are, still_stands}
+use Rattle.node_core.proofs.Gathering.{still_idle}
 use Rattle.node_core.proofs.Recorded.{both_recorded, may_front, may_rest}
 use Rattle.node_core.proofs.Showing.{never_unprepared, prepared}
 use Rattle.node_core.proofs.act.Act.prepare_by.Goals as goal
@@ -51,6 +52,14 @@ take-requires-clause-cursor c =
     let prep = c.in-Some.prep in
     let stood = prepared m.prep r.node.shape r.node.me r.node.volatile.pages m.role prep (cursor_at r.node) c.requires.prepares (sym c.leave_preparation.ensures.prep ∙ c.in-Some.is) r.is.stands.of_prep in
     stood.same_cursor ∙ ap (λ d. cursor_of d.commit d.log) (sym r.is.stands.of_durable) ∙ ap (λ x. cursor_of x.store.kept.commit x.store.kept.log) (sym c.leave_preparation.ensures.rest)
+
+pub give_values-requires-clause-idle : goal.give_values-requires-clause-idle
+give_values-requires-clause-idle c = ap (λ x. is_gathering x.role x.gather) c.leave_preparation.ensures.rest
+
+pub cut-requires-clause-idle : goal.cut-requires-clause-idle
+cut-requires-clause-idle c =
+    still_idle (map value_given c.deref.result.now) (record c.args.self { member = c.leave_preparation.new.self }) c.in_ok-act.act c.in_ok-act.ensures
+    (ap (λ x. is_gathering x.role x.gather) c.leave_preparation.ensures.rest)
 
 pub give_values-requires-clause-free : goal.give_values-requires-clause-free
 give_values-requires-clause-free c = ap (λ x. is_preparing x.role) c.leave_preparation.ensures.rest

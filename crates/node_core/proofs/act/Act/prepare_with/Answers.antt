@@ -14,7 +14,9 @@ returns-clause-node c = λ n pages is stands.
         of_heard = s.of_heard;
         settled = s.settled;
         of_prep = stands;
+        of_gather = tt;
         of_calls = s.of_calls;
+        of_reads = s.of_reads;
       };
       of_store = is.of_store;
       of_service = is.of_service;

@@ -16,7 +16,9 @@ returns c = record {
           of_heard = c.lead.ensures.heard n.shape n.volatile.heard n.volatile.first s.of_heard;
           settled = omega (arith, c.lead.ensures.settled, c.commit.ensures, s.settled, ap (λ d. d.commit) s.of_durable);
           of_prep = tt;
+          of_gather = refl;
           of_calls = s.of_calls;
+          of_reads = s.of_reads;
         };
         of_store = is.of_store;
         of_service = is.of_service;

@@ -19,7 +19,9 @@ invariant_of-result c = record {
       of_heard = c.in_ok-heard.ensures.nothing;
       settled = omega (arith, c.in_ok-heard.ensures.settled);
       of_prep = tt;
+      of_gather = tt;
       of_calls = c.new-2.ensures.items;
+      of_reads = c.new-3.ensures.items;
     };
     of_store = c.requires.store;
     of_service = c.in_ok-service.ensures;
@@ -29,7 +31,7 @@ invariant_of-result c = record {
     me = refl;
     is_member = c.requires.member;
     durable = subst (λ s. DurableInRange s c.args.store.kept) c.requires.store c.law.ensures;
-    clients = (tt, All-nil CallInRange);
+    clients = (tt, (All-nil CallInRange, All-nil CallInRange));
     knows = All-nil IsOfNoLog;
     pages = All-nil (PageInRange c.args.shape.now.need);
   };

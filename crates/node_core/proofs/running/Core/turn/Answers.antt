@@ -1,6 +1,7 @@
 use Rattle.std.proofs.Common.{◌≡◌, ◌∙◌, ◌++◌, map, ap, sym, subst}
 use Rattle.std.specs.Option.{option_to_list}
 use Rattle.std.specs.Prelude.{◌==◌, ◌&&◌}
+use Rattle.craft_base.specs.Shape.{Shape}
 use Rattle.entry_frames.specs.declared.output.Output.TheVariants as outputs
 use Rattle.entry_frames.specs.declared.role.Role.TheVariants.{Preparing}
 use Rattle.entry_frames.specs.Durable.{Durable}
@@ -12,9 +13,10 @@ use Rattle.world_model.specs.Turn.{reply_output}
 use Rattle.node_core.specs.Stands.{Kept, Stands}
 use Rattle.node_core.specs.Acting.{IsNode, kept_of}
 use Rattle.node_core.specs.Serving.{heads_up_to}
+use Rattle.node_core.specs.declared.member.Member.{Member}
 use Rattle.node_core.specs.declared.telling.Before.{Before}
 use Rattle.node_core.specs.declared.turn.Turned.{Turned}
-use Rattle.node_core.specs.Turns.{TurnedTo, change_of, event_of, growth_of}
+use Rattle.node_core.specs.Turns.{IsReadIn, TurnedTo, change_of, event_of, growth_of}
 use Rattle.node_core.proofs.Turning.{still_ranged, told_between, turned_to}
 use Rattle.node_core.proofs.running.Core.turn.Goals as goal
 
@@ -24,6 +26,14 @@ invariant_of-result c =
     let event = event_of c.args.event.now in
     let told : EventInRange m.shape m.me event = subst (λ k. EventInRange k.shape k.me event) (sym c.self.view_is) c.requires.ranged in
     still_ranged m event c.in_ok-act.act c.in_ok-act-2.act c.in_ok-act.ensures.member c.in_ok-act-2.ensures c.law.ensures told c.self.invariant
+
+pub take_turn-requires-clause-read : goal.take_turn-requires-clause-read
+take_turn-requires-clause-read c =
+    let r = c.self.invariant in
+    let event = c.args.event.now in
+    let read : IsReadIn c.self.inside.member.shape event = subst (λ (k : Kept). IsReadIn k.shape event) (sym c.self.view_is) c.requires.read in
+    subst (λ (x : Member). IsReadIn x.store.shape event) (sym c.in_ok-act.ensures.member)
+    (subst (λ (s : Shape). IsReadIn s event) (r.is.stands.of_shape ∙ sym r.is.of_store) read)
 
 pub returns-clause-turned : goal.returns-clause-turned
 returns-clause-turned c = λ n s.
