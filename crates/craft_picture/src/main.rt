@@ -40,6 +40,7 @@ enum Status {
 }
 
 fn main(rt: HostRuntime) -> ExitCode {
+    let _places = [hold_place(&rt), hold_place(&rt), hold_place(&rt)];
     let status = match command_words(&rt) {
         Ok(words) => answer(&rt, &words),
         Err(status) => status,
@@ -48,6 +49,12 @@ fn main(rt: HostRuntime) -> ExitCode {
         let _ = rt.stderr().write_all(text.as_bytes());
     }
     ExitCode::from(code_of(status))
+}
+
+/// Opens a folder, which can be neither read nor written. So a standard stream that is closed stays one that fails: the system would
+/// put the file of the schedule in its place, and the schedule would be read as the text.
+fn hold_place(rt: &HostRuntime) -> Option<File> {
+    File::open(rt, "/").ok()
 }
 
 /// The words of the command line without the program's name.

@@ -8,6 +8,9 @@ use std::fmt::Write;
 /// How far to the right a frame goes that isn't taken in its part, in pixels.
 const STUB: u64 = 42;
 
+/// How far an arrow is bent for each lane that it passes, in pixels.
+const BEND: u64 = 26;
+
 /// Draws the frames that are taken in a part, and the beginnings of those that are sent there and taken later or never.
 pub(crate) fn push_arrows(
     drawing: &mut String,
@@ -46,7 +49,7 @@ fn push_sent(
 
 /// How far down a frame goes that isn't taken in its part: towards its receiver's lane, the farther the more.
 fn stub_end(frame: &Frame) -> u64 {
-    let away = 14 + 9 * u64::from(frame.from.abs_diff(frame.to));
+    let away = 10 + 12 * u64::from(frame.from.abs_diff(frame.to));
     let y = lane_y(frame.from);
     if frame.from < frame.to {
         y + away
@@ -63,12 +66,17 @@ fn push_lost(
     frame: &Frame,
 ) -> Result<(), OutOfMemory> {
     let (x, y, end) = (column_x(column), lane_y(frame.from), stub_end(frame));
-    let to = x + STUB;
+    let (to, beside) = (x + STUB, x + STUB + 7);
+    let (name, receiver) = (&frame.name, frame.to);
     drawing.push_str("<g>")?;
     push_title(drawing, place, frame, "is never taken")?;
     writeln!(
         drawing,
-        "<path class=\"stub\" d=\"M{x} {y}L{to} {end}\"/><use href=\"#cross\" class=\"lost\" x=\"{to}\" y=\"{end}\"/></g>"
+        "<path class=\"stub\" d=\"M{x} {y}L{to} {end}\"/><use href=\"#cross\" class=\"lost\" x=\"{to}\" y=\"{end}\"/>"
+    )?;
+    writeln!(
+        drawing,
+        "<text class=\"label\" x=\"{beside}\" y=\"{end}\">{name} to {receiver}</text></g>"
     )?;
     Ok(())
 }
@@ -118,7 +126,7 @@ fn push_taken(
     Ok(())
 }
 
-/// Draws an arrow that ends beside its receiver's lane.
+/// Draws an arrow that ends beside its receiver's lane. It is bent by the lanes that it passes, so that it lies on no other one.
 fn push_arrow(
     drawing: &mut String,
     class: &str,
@@ -133,9 +141,12 @@ fn push_arrow(
     } else {
         end + 6
     };
+    let passed = u64::from(frame.from.abs_diff(frame.to).saturating_sub(1));
+    let middle = from.saturating_add(to) / 2;
+    let (bend_x, bend_y) = (middle.saturating_add(BEND * passed), (y + end) / 2);
     writeln!(
         drawing,
-        "<path class=\"{class}\" d=\"M{from} {y}L{to} {end}\"/>"
+        "<path class=\"{class}\" d=\"M{from} {y}Q{bend_x} {bend_y} {to} {end}\"/>"
     )?;
     Ok(())
 }

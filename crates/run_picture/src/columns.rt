@@ -2,9 +2,13 @@
 use crate::paper::{column_x, part_height};
 use crate::part::Part;
 use crate::run::Step;
+use crate::short::push_words;
 use craft_base::OutOfMemory;
 use std::fmt::Write;
 use world_model::Verdict;
+
+/// The most letters of a line that stand above its column.
+const FACE: usize = 30;
 
 /// Draws each event's line of the schedule above its column, grey where nothing came of it.
 pub(crate) fn push_columns(
@@ -38,9 +42,11 @@ fn push_column(
     };
     let line = &step.line;
     writeln!(drawing, "<path class=\"guide\" d=\"M{x} 170V{bottom}\"/>")?;
-    writeln!(
+    write!(
         drawing,
-        "<text class=\"{class}\" transform=\"translate({x} 164) rotate(-48)\">{number} {line}{verdict}</text>"
+        "<text class=\"{class}\" transform=\"translate({x} 164) rotate(-48)\"><title>{number} {line}{verdict}</title>{number} "
     )?;
+    push_words(drawing, &[line.as_str()], FACE)?;
+    writeln!(drawing, "{verdict}</text>")?;
     Ok(())
 }

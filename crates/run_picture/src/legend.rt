@@ -17,9 +17,12 @@ const LEGEND: &str = "\
 <circle class=\"dot\" cx=\"37\" cy=\"98\" r=\"3\"/><text x=\"62\" y=\"102\">tick</text>
 <path class=\"dot\" d=\"M231 92h12l-6 12z\"/><text x=\"262\" y=\"102\">call; 7: reply to client 7</text>
 <circle class=\"idle\" cx=\"437\" cy=\"98\" r=\"4\"/><text x=\"462\" y=\"102\">skipped</text>
-<use href=\"#cross\" class=\"halt\" x=\"37\" y=\"124\"/><text x=\"62\" y=\"128\">stops in that call</text>
+<use href=\"#cross\" class=\"halt\" x=\"37\" y=\"124\"/><text x=\"62\" y=\"128\">stop 3: in device call 3</text>
 <use href=\"#scissors\" class=\"cut\" x=\"235\" y=\"124\"/><text x=\"262\" y=\"128\">entries from there cut</text>
 <use href=\"#square\" class=\"whole\" x=\"437\" y=\"124\"/><text x=\"462\" y=\"128\">became whole</text>
+<circle class=\"dot\" cx=\"37\" cy=\"150\" r=\"4\"/><text x=\"62\" y=\"154\">a frame is taken</text>
+<path class=\"halt\" d=\"M232 141v18\"/><path class=\"dot\" d=\"M240 143 251 150 240 157z\"/><text x=\"262\" y=\"154\">goes down; starts</text>
+<circle class=\"idle\" cx=\"437\" cy=\"150\" r=\"6\"/><circle class=\"dot\" cx=\"437\" cy=\"150\" r=\"2.5\"/><text x=\"462\" y=\"154\">shows its disk</text>
 ";
 
 /// Draws the legend below so many parts.

@@ -1,5 +1,5 @@
 //! A picture of a run: its schedule and its text are read, and a space-time diagram is drawn of them, as SVG. Each member has a lane and
-//! each event a column, as in figures of Lamport's and of Raft's papers.
+//! each event a column, after the diagrams of Lamport's paper on the order of events (1978).
 #![tactic(auto)]
 
 mod arrows;

@@ -65,9 +65,8 @@ fn push_notes(drawing: &mut String, run: &Run, step: &Step) -> Result<(), OutOfM
     let frame = run.taken_by(step);
     let mut notes = Notes::beside(frame);
     if let Some(frame) = frame {
-        let (name, forms) = (&frame.name, &frame.forms);
         notes.begin(drawing, "")?;
-        writeln!(drawing, "{name} {forms}</text>")?;
+        push_what_is_said(drawing, frame)?;
     }
     if let (Verdict::Stop, Some(call)) = (step.verdict, step.stop) {
         notes.begin(drawing, "role")?;
@@ -75,6 +74,17 @@ fn push_notes(drawing: &mut String, run: &Run, step: &Step) -> Result<(), OutOfM
     }
     for told in &step.told {
         push_told(drawing, &mut notes, told)?;
+    }
+    Ok(())
+}
+
+/// Writes a frame's name, and the forms of the entries that it carries.
+fn push_what_is_said(drawing: &mut String, frame: &Frame) -> Result<(), OutOfMemory> {
+    let (name, forms) = (&frame.name, &frame.forms);
+    if forms.is_empty() {
+        writeln!(drawing, "{name}</text>")?;
+    } else {
+        writeln!(drawing, "{name} {forms}</text>")?;
     }
     Ok(())
 }

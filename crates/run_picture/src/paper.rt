@@ -26,7 +26,7 @@ pub(crate) const TITLE: u64 = 50;
 /// How wide and how high the legend is.
 const LEGEND_WIDTH: u64 = 620;
 
-const LEGEND_HEIGHT: u64 = 160;
+const LEGEND_HEIGHT: u64 = 186;
 
 /// The middle of a column.
 pub(crate) fn column_x(column: u8) -> u64

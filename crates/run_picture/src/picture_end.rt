@@ -17,7 +17,7 @@ pub enum PictureEnd {
     ScheduleFault,
     /// The text can't be read. Nothing was written.
     TextFault,
-    /// The picture can't be written; a first part of it was.
+    /// The sink failed; what it took before stands.
     SinkFault,
     /// No memory was left. Nothing was written.
     NoMemory,

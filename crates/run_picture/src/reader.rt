@@ -10,10 +10,11 @@ use craft_base::OutOfMemory;
 use std::alloc::Global;
 use world_model::Verdict;
 
-/// The most letters of a line that stand in a picture, on its face and behind it.
-const FACE: usize = 30;
-
+/// The most letters of a line that a pointer shows.
 const BEHIND: usize = 160;
+
+/// The most letters of a frame's name and of its forms.
+const FACE: usize = 30;
 
 /// The most letters of what a client is told.
 const REPLY: usize = 16;
@@ -65,14 +66,14 @@ impl Reader {
     ) -> Result<bool, OutOfMemory>
         ensures { IfOk result (λ good. IsTrue good → vec_len self.new.run.steps ≡ vec_len self.old.run.steps + 1) }
     {
-        let frame = self.frame_of(asked);
+        let frame = self.place_of_frame(asked);
         let member = self.member_of(asked, frame);
         if verdict != self.verdict_of(asked, member) {
             return Ok(false);
         }
         let sent = self.run.frames.len();
         self.run.steps.push(Step {
-            line: short(alloc, &[line], FACE)?,
+            line: short(alloc, &[line], BEHIND)?,
             kind: asked.kind,
             stop: asked.stop,
             member,
@@ -87,7 +88,7 @@ impl Reader {
     }
 
     /// The place of the frame that is taken, where it is sent.
-    fn frame_of(&self, asked: &Asked) -> Option<usize> {
+    fn place_of_frame(&self, asked: &Asked) -> Option<usize> {
         let place = usize::try_from(asked.frame?.checked_sub(1)?).ok()?;
         if place < self.run.frames.len() {
             Some(place)
@@ -174,7 +175,7 @@ impl Reader {
         if !may_cause(step, said) || !is_next(said, sent, self.run.members) {
             return Ok(false);
         }
-        if let Some(frame) = frame_of(alloc, event, words, said)? {
+        if let Some(frame) = sent_by(alloc, event, words, said)? {
             self.run.frames.push(frame)?;
             step.sent.1 = self.run.frames.len();
         }
@@ -216,7 +217,7 @@ fn is_next(said: &Said, sent: usize, members: u8) -> bool {
 }
 
 /// The frame that a line sends, if it sends one.
-fn frame_of(
+fn sent_by(
     alloc: Global,
     event: usize,
     words: &[&str],

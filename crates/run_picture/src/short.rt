@@ -6,7 +6,7 @@ use std::fmt::Write;
 /// Three points for what was left out.
 const MORE: &str = "\u{2026}";
 
-/// Adds the words with single blanks between them, and at most so many letters of them. They are ASCII.
+/// Adds the words, which are ASCII, with single blanks between them: at most so many letters, and then points for what is left out.
 pub(crate) fn push_words(
     text: &mut String,
     words: &[&str],

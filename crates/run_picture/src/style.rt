@@ -1,5 +1,5 @@
-//! Colours and shapes. The colours are those of Okabe and Ito's palette (2008), which people with any kind of colour vision tell apart;
-//! what a colour says, a word, a width or a shape says too.
+//! Colours and shapes. The colours of members and marks are of Okabe and Ito's palette (2008), chosen so that people who see colours
+//! differently tell them apart; what a colour says, a word, a width or a shape says too.
 
 /// The style, for a light and for a dark page, and the tip of an arrow.
 pub(crate) const STYLE: &str = "\
@@ -24,17 +24,17 @@ text { font: 11px Verdana, 'DejaVu Sans', sans-serif; fill: #222; }
 .stub { stroke: #222; stroke-width: 1.2; fill: none; }
 .tip { fill: #222; }
 .lost { stroke: #d55e00; stroke-width: 2.4; fill: none; }
-.later { fill: #8c8c8c; }
+.later { fill: #6b6b6b; }
 .commit { stroke: #0072b2; stroke-width: 1.6; fill: none; }
-.index { font-size: 10px; fill: #0072b2; }
+.index { font-size: 10px; fill: #0072b2; paint-order: stroke; stroke: #fff; stroke-width: 3px; }
 .whole { fill: #f0e442; stroke: #222; }
 .cut { stroke: #222; stroke-width: 1.6; fill: none; }
 .halt { stroke: #222; stroke-width: 3; fill: none; }
 .idle { fill: none; stroke: #8c8c8c; }
-.grey { fill: #8c8c8c; }
+.grey { fill: #6b6b6b; }
 @media (prefers-color-scheme: dark) {
 text { fill: #e8e8e8; }
-.label { stroke: #16181d; }
+.label, .index { stroke: #16181d; }
 .paper { fill: #16181d; }
 .guide { stroke: #2e323a; }
 .dot { fill: #e8e8e8; stroke: #16181d; }

@@ -100,7 +100,7 @@ const PIECES: [(&str, usize); 16] = [
     (">stop 3</text>", 1),
     // events 7 and 10 are grey
     ("<text class=\"asked grey\" ", 2),
-    (">voted yes </text>", 2),
+    (">voted yes</text>", 2),
     (">append w</text>", 1),
     ("<title>11 show 1\n11 done\nnode 1 1 0 0 0\n</title>", 1),
 ];
@@ -186,7 +186,7 @@ fn a_long_run_has_parts(rt: HostRuntime) -> Result<(), Fail> {
     let (end, drawn) = run(alloc, schedule.as_str(), text.as_str())?;
     assert_eq!(rt; end, PictureEnd::End);
     assert_eq!(rt; count_of(&drawn, ">member 2</text>"), 3);
-    assert_eq!(rt; count_of(&drawn, "viewBox=\"0 0 4810 1800\""), 1);
+    assert_eq!(rt; count_of(&drawn, "viewBox=\"0 0 4810 1826\""), 1);
     Ok(())
 }
 
